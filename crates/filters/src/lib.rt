@@ -1,0 +1,6 @@
+//! Filters of the weights of a graph.
+
+mod families;
+
+pub use families::Family;
+pub use families::Filter;

@@ -1,0 +1,5 @@
+//! The kinds of weight: bounded lattices.
+
+mod kinds;
+
+pub use kinds::Kind;
