@@ -1,0 +1,4 @@
+pub mod Passes
+pub mod Filters
+pub mod Weightings
+pub mod Calls

@@ -1,0 +1,4 @@
+pub mod Gathers
+pub mod Scatters
+pub mod Exchanges
+pub mod Loops
