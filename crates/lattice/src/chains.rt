@@ -40,7 +40,7 @@ pub impl Chain for Level as LevelChain {
     ghost leq = { level-leq };
 
     fn at_most(self, other: Level) -> bool {
-        self.is_below(other)
+        self.value() <= other.value()
     }
 }
 

@@ -4,7 +4,7 @@ use native.Mathlib.Omega.{arith}
 use Rattle.lattice.proofs.ChainLaws.{presence-total}
 use Rattle.lattice.proofs.CutLaws.{cut-morphism}
 use Rattle.lattice.proofs.KindLaws.{presence-lattice}
-use Rattle.lattice.proofs.cuts.PresenceCutReading.the-impl.Needs as need
+use Rattle.lattice.proofs.presence_cuts.PresenceCutReading.the-impl.Needs as need
 
 pub morphism-law : need.morphism-law
 morphism-law f =

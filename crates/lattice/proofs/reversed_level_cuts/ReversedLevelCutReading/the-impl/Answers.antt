@@ -4,7 +4,7 @@ use Rattle.lattice.proofs.ChainLaws.{level-total, reversed-total}
 use Rattle.lattice.proofs.CutLaws.{cut-morphism}
 use Rattle.lattice.proofs.KindLaws.{level-lattice}
 use Rattle.lattice.proofs.Lattices.{reversed-lattice}
-use Rattle.lattice.proofs.cuts.ReversedLevelCutReading.the-impl.Needs as need
+use Rattle.lattice.proofs.reversed_level_cuts.ReversedLevelCutReading.the-impl.Needs as need
 
 pub morphism-law : need.morphism-law
 morphism-law f =
