@@ -25,11 +25,11 @@ pub impl Kind for Presence as PresenceKind {
     ghost operations = { presence-operations };
 
     fn lowest() -> Presence {
-        Presence::Absent
+        Self::Absent
     }
 
     fn highest() -> Presence {
-        Presence::Present
+        Self::Present
     }
 
     fn join(self, other: Presence) -> Presence {
