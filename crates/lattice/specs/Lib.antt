@@ -1,2 +1,9 @@
+pub mod Chains
+pub mod ClassSets
+pub mod Cuts
 pub mod Lattices
+pub mod Levels
 pub mod Morphisms
+pub mod Presences
+pub mod Records
+pub mod Reversals

@@ -1,0 +1,35 @@
+-- The laws of presences, levels and class sets. Assumes nothing.
+use borrow.Author.Needs.{needs}
+use mathlib.Core.Bool.{false≢true}
+use mathlib.Core.Logic.{⊎-elim}
+use mathlib.Core.Path.{sym, _∙_}
+use Rattle.std.proofs.shelf.Tests.{and-from, and-parts, or-cases, or-left, or-right}
+use Rattle.lattice.specs.ClassSets.{classes-below, classes-operations}
+use Rattle.lattice.specs.Lattices.{Lattice}
+use Rattle.lattice.specs.Levels.{level-below, level-operations}
+use Rattle.lattice.specs.Presences.{presence-below, presence-operations}
+use Rattle.lattice.proofs.SameValues.{same-level, same-classes}
+use Rattle.lattice.proofs.SetBits.{is-in-or, is-in-and, is-in-none, is-in-all, same-set, same-test}
+
+pub presence-lattice : Lattice presence-below presence-operations
+presence-lattice = search needs
+
+pub level-lattice : Lattice level-below level-operations
+level-lattice = search (needs, same-level)
+
+pub classes-lattice : Lattice classes-below classes-operations
+classes-lattice = record {
+  order = record {
+    reflexive = λ x k h i. i;
+    transitive = λ x y z f g k h i. g k h (f k h i);
+    antisymmetric = λ x y f g. same-classes x y (same-set (x .bits) (y .bits) (x .fits) (y .fits) (λ k h. same-test _ _ (f k h) (g k h)));
+  };
+  lowest-below = λ x k h i. absurd (false≢true (sym (is-in-none k) ∙ i));
+  below-highest = λ x k h i. is-in-all k h;
+  below-join-left = λ x y k h i. is-in-or k (x .bits) (y .bits) ∙ or-left _ _ i;
+  below-join-right = λ x y k h i. is-in-or k (x .bits) (y .bits) ∙ or-right _ _ i;
+  join-below = λ x y z f g k h i. ⊎-elim (f k h) (g k h) (or-cases _ _ (sym (is-in-or k (x .bits) (y .bits)) ∙ i));
+  meet-below-left = λ x y k h i. and-parts _ _ (sym (is-in-and k (x .bits) (y .bits)) ∙ i) .0;
+  meet-below-right = λ x y k h i. and-parts _ _ (sym (is-in-and k (x .bits) (y .bits)) ∙ i) .1;
+  below-meet = λ x y z f g k h i. is-in-and k (x .bits) (y .bits) ∙ and-from _ _ (f k h i) (g k h i);
+}

@@ -1,0 +1,51 @@
+//! Which classes are in a set, and the order of sets by inclusion.
+
+ghost use mathlib.Core.Path.{_≡_};
+ghost use Rattle.lattice.specs.ClassSets.{has-class, classes-below, classes-operations, Classes-meant};
+use crate::class_sets::Classes;
+use crate::kinds::Kind;
+
+impl Classes {
+    /// Whether class k is in the set. There is none above 31.
+    pub fn has(self, k: u8) -> bool
+        ensures { λ r. ⌜ r ≡ has-class k self ⌝ }
+    {
+        k < 32 && (self.bits >> k) % 2 == 1
+    }
+
+    /// Shows what the kind means: the sets of classes 0 to 31, ordered by inclusion, the join the union and the meet the
+    /// intersection.
+    pub fn meaning()
+        ensures { λ _. ⌜ Classes-meant classes-below classes-operations ⌝ }
+    {}
+}
+
+pub impl Kind for Classes as ClassesKind {
+    ghost below = { classes-below };
+
+    ghost operations = { classes-operations };
+
+    fn lowest() -> Classes {
+        Classes { bits: 0 }
+    }
+
+    fn highest() -> Classes {
+        Classes { bits: 0xffff_ffff }
+    }
+
+    fn join(self, other: Classes) -> Classes {
+        Classes {
+            bits: self.bits | other.bits,
+        }
+    }
+
+    fn meet(self, other: Classes) -> Classes {
+        Classes {
+            bits: self.bits & other.bits,
+        }
+    }
+
+    fn is_below(self, other: Classes) -> bool {
+        self.bits & other.bits == self.bits
+    }
+}

@@ -1,0 +1,46 @@
+//! The order of levels.
+
+ghost use Rattle.lattice.specs.Levels.{level-below, level-operations, Levels-meant};
+use crate::kinds::Kind;
+use crate::levels::Level;
+
+pub impl Kind for Level as LevelKind {
+    ghost below = { level-below };
+
+    ghost operations = { level-operations };
+
+    fn lowest() -> Level {
+        Level { value: 0 }
+    }
+
+    fn highest() -> Level {
+        Level { value: 65535 }
+    }
+
+    fn join(self, other: Level) -> Level {
+        if other.value >= self.value {
+            other
+        } else {
+            self
+        }
+    }
+
+    fn meet(self, other: Level) -> Level {
+        if other.value <= self.value {
+            other
+        } else {
+            self
+        }
+    }
+
+    fn is_below(self, other: Level) -> bool {
+        self.value <= other.value
+    }
+}
+
+impl Level {
+    /// Shows what the kind means: the numbers 0 to 65,535 in the usual order, the join the larger and the meet the smaller.
+    pub fn meaning()
+        ensures { λ _. ⌜ Levels-meant level-below level-operations ⌝ }
+    {}
+}
