@@ -3,13 +3,15 @@ use borrow.Author.Needs.{needs}
 use mathlib.Core.Bool.{false≢true}
 use mathlib.Core.Logic.{⊎-elim}
 use mathlib.Core.Path.{sym, _∙_}
-use Rattle.std.proofs.shelf.Tests.{and-from, and-parts, or-cases, or-left, or-right}
-use Rattle.lattice.specs.ClassSets.{classes-below, classes-operations}
+use Rattle.std.specs.Orderings.{Decides}
+use Rattle.std.proofs.shelf.Tests.{eqb-true, eq-eqb, and-from, and-parts, or-cases, or-left, or-right}
+use Rattle.lattice.specs.ClassSets.{classes-below, classes-leq, classes-operations}
 use Rattle.lattice.specs.Lattices.{Lattice}
 use Rattle.lattice.specs.Levels.{level-below, level-operations}
 use Rattle.lattice.specs.Presences.{presence-below, presence-operations}
+use Rattle.lattice.specs.declared.class_sets.Classes.{Classes}
 use Rattle.lattice.proofs.SameValues.{same-level, same-classes}
-use Rattle.lattice.proofs.SetBits.{is-in-or, is-in-and, is-in-none, is-in-all, same-set, same-test}
+use Rattle.lattice.proofs.SetBits.{is-in-or, is-in-and, is-in-none, is-in-all, same-set, same-test, included-from-and, and-from-included}
 
 pub presence-lattice : Lattice presence-below presence-operations
 presence-lattice = search needs
@@ -33,3 +35,9 @@ classes-lattice = record {
   meet-below-right = λ x y k h i. and-parts _ _ (sym (is-in-and k (x .bits) (y .bits)) ∙ i) .1;
   below-meet = λ x y z f g k h i. is-in-and k (x .bits) (y .bits) ∙ and-from _ _ (f k h i) (g k h i);
 }
+
+pub classes-decided : (x y : Classes) → Decides (classes-leq x y) (classes-below x y)
+classes-decided x y = (
+  (λ e k h i. included-from-and (x .bits) (y .bits) (eqb-true _ _ e) k i),
+  (λ f. eq-eqb _ _ (and-from-included (x .bits) (y .bits) (x .fits) (y .fits) f)),
+)

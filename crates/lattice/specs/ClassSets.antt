@@ -28,6 +28,10 @@ classes-of n = record { bits = n % 2 ^ 32; fits = mod-lt n (zero-lt-suc 42949672
 abbrev pub classes-below : Classes → Classes → Type 0
 classes-below x y = (k : ℕ) → k < 32 → has-class k x ≡ true → has-class k y ≡ true
 
+-- the same as a test: the classes in both are those in the first
+abbrev pub classes-leq : Classes → Classes → Bool
+classes-leq x y = eqb (bitAnd (x .bits) (y .bits)) (x .bits)
+
 abbrev pub union : Classes → Classes → Classes
 union x y = record { bits = bitOr (x .bits) (y .bits); fits = or-lt 32 (x .bits) (y .bits) (x .fits) (y .fits) }
 

@@ -1,4 +1,5 @@
 -- A kind with its order turned. Assumes nothing.
+use mathlib.Core.Bool.{Bool}
 use Rattle.lattice.specs.Lattices.{Operations, dual, turned}
 use Rattle.lattice.specs.declared.reversal.Reversed.{Reversed}
 
@@ -17,6 +18,10 @@ wrapped k = record {
 
 abbrev pub reversed-below : {K : Type 0} → (K → K → Type 0) → Reversed K → Reversed K → Type 0
 reversed-below below x y = turned below (x .inner) (y .inner)
+
+-- the same as a test
+abbrev pub reversed-leq : {K : Type 0} → (K → K → Bool) → Reversed K → Reversed K → Bool
+reversed-leq leq x y = leq (y .inner) (x .inner)
 
 abbrev pub reversed-operations : {K : Type 0} → Operations K → Operations (Reversed K)
 reversed-operations k = wrapped (dual k)

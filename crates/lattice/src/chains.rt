@@ -1,11 +1,9 @@
 //! Kinds of which any two values compare.
 
-ghost use mathlib.Core.Bool.{Bool, false};
+ghost use mathlib.Core.Bool.{false};
 ghost use mathlib.Core.Path.{_≡_};
 ghost use Rattle.std.specs.Orderings.{Decides};
 ghost use Rattle.lattice.specs.Chains.{Total};
-ghost use Rattle.lattice.specs.Levels.{level-leq};
-ghost use Rattle.lattice.specs.Presences.{presence-leq};
 use crate::kinds::Kind;
 use crate::level_order::LevelKind;
 use crate::levels::Level;
@@ -16,37 +14,28 @@ use crate::reversal::ReversedKind;
 
 /// A kind that is a chain: of any two values one is below the other.
 pub trait Chain: Kind {
-    /// The order as a test.
-    ghost leq: { Self → Self → Bool };
-
-    law total: { Total (Self·Kind .below) leq };
+    law total: { Total (Self·Kind .below) (Self·Kind .leq) };
 
     /// Whether this value is below the other. Where it is not, the other is below this one.
     fn at_most(self, other: Self) -> bool
-        ensures value { λ r. ⌜ r ≡ leq self other ⌝ }
+        ensures value { λ r. ⌜ r ≡ Self·Kind .leq self other ⌝ }
         ensures exact { λ r. ⌜ Decides r (Self·Kind .below self other) ⌝ }
         ensures otherwise { λ r. ⌜ (r ≡ false → Self·Kind .below other self) ⌝ };
 }
 
 pub impl Chain for Presence as PresenceChain {
-    ghost leq = { presence-leq };
-
     fn at_most(self, other: Presence) -> bool {
         self.is_below(other)
     }
 }
 
 pub impl Chain for Level as LevelChain {
-    ghost leq = { level-leq };
-
     fn at_most(self, other: Level) -> bool {
         self.value() <= other.value()
     }
 }
 
 pub impl<C: Chain> Chain for Reversed<C> as ReversedChain {
-    ghost leq = { λ x y. C·Chain .leq (y .inner) (x .inner) };
-
     fn at_most(self, other: Self) -> bool {
         other.inner.at_most(self.inner)
     }

@@ -11,7 +11,7 @@ use crate::presences::Presence;
 
 /// What every cut does: present for the values that the threshold is below, absent for the others.
 pub fn cut<C: Chain>(threshold: C, weight: C) -> Presence
-    ensures value { λ r. ⌜ r ≡ cut-at (C·Chain .leq) threshold weight ⌝ }
+    ensures value { λ r. ⌜ r ≡ cut-at (C·Kind .leq) threshold weight ⌝ }
     ensures exact { λ r. ⌜ (r ≡ Present → C·Kind .below threshold weight) × (C·Kind .below threshold weight → r ≡ Present) ⌝ }
 {
     if threshold.at_most(weight) {
@@ -23,5 +23,5 @@ pub fn cut<C: Chain>(threshold: C, weight: C) -> Presence
 
 /// Shows that a cut of any chain, at any threshold but the lowest value, keeps the ends, joins and meets.
 pub fn cut_keeps_all<C: Chain>(threshold: C)
-    ensures { λ _. ⌜ ((threshold ≡ C·Kind .operations .lowest → ⊥) → Morphism (C·Kind .operations) presence-operations (cut-at (C·Chain .leq) threshold)) ⌝ }
+    ensures { λ _. ⌜ ((threshold ≡ C·Kind .operations .lowest → ⊥) → Morphism (C·Kind .operations) presence-operations (cut-at (C·Kind .leq) threshold)) ⌝ }
 {}

@@ -1,7 +1,7 @@
 //! Which classes are in a set, and the order of sets by inclusion.
 
 ghost use mathlib.Core.Path.{_≡_};
-ghost use Rattle.lattice.specs.ClassSets.{has-class, classes-below, classes-operations, Classes-meant};
+ghost use Rattle.lattice.specs.ClassSets.{has-class, classes-below, classes-leq, classes-operations, Classes-meant};
 use crate::class_sets::Classes;
 use crate::kinds::Kind;
 
@@ -24,6 +24,8 @@ pub impl Kind for Classes as ClassesKind {
     ghost below = { classes-below };
 
     ghost operations = { classes-operations };
+
+    ghost leq = { classes-leq };
 
     fn lowest() -> Classes {
         Classes { bits: 0 }

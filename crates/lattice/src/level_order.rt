@@ -1,6 +1,6 @@
 //! The order of levels.
 
-ghost use Rattle.lattice.specs.Levels.{level-below, level-operations, Levels-meant};
+ghost use Rattle.lattice.specs.Levels.{level-below, level-leq, level-operations, Levels-meant};
 use crate::kinds::Kind;
 use crate::levels::Level;
 
@@ -8,6 +8,8 @@ pub impl Kind for Level as LevelKind {
     ghost below = { level-below };
 
     ghost operations = { level-operations };
+
+    ghost leq = { level-leq };
 
     fn lowest() -> Level {
         Level { value: 0 }

@@ -1,6 +1,6 @@
 //! The kind of weights that are there or not.
 
-ghost use Rattle.lattice.specs.Presences.{presence-below, presence-operations, Presences-meant};
+ghost use Rattle.lattice.specs.Presences.{presence-below, presence-leq, presence-operations, Presences-meant};
 use crate::kinds::Kind;
 use std::fmt;
 
@@ -23,6 +23,8 @@ pub impl Kind for Presence as PresenceKind {
     ghost below = { presence-below };
 
     ghost operations = { presence-operations };
+
+    ghost leq = { presence-leq };
 
     fn lowest() -> Presence {
         Self::Absent

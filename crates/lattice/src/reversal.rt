@@ -1,6 +1,6 @@
 //! Any kind with its order turned.
 
-ghost use Rattle.lattice.specs.Reversals.{reversed-below, reversed-operations};
+ghost use Rattle.lattice.specs.Reversals.{reversed-below, reversed-leq, reversed-operations};
 use crate::kinds::Kind;
 use std::fmt;
 
@@ -15,6 +15,8 @@ pub impl<K: Kind> Kind for Reversed<K> as ReversedKind {
     ghost below = { reversed-below (K·Kind .below) };
 
     ghost operations = { reversed-operations (K·Kind .operations) };
+
+    ghost leq = { reversed-leq (K·Kind .leq) };
 
     fn lowest() -> Self {
         Reversed {

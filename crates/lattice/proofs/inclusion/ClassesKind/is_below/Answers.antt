@@ -1,9 +1,6 @@
-use Rattle.std.proofs.shelf.Tests.{eqb-true, eq-eqb}
-use Rattle.lattice.proofs.SetBits.{included-from-and, and-from-included}
+use mathlib.Core.Path.{refl}
+use Rattle.lattice.proofs.KindLaws.{classes-decided}
 use Rattle.lattice.proofs.inclusion.ClassesKind.is_below.Needs as need
 
 pub returns : need.returns
-returns c =
-    let x = c .args .self in
-    let y = c .args .other in
-    (λ e k h i. included-from-and (x .bits) (y .bits) (eqb-true _ _ e) k i, λ f. eq-eqb _ _ (and-from-included (x .bits) (y .bits) (x .fits) (y .fits) f))
+returns c = record { value = refl; exact = classes-decided (c .args .self) (c .args .other) }
