@@ -114,33 +114,31 @@ module _ (at b : ℕ) (bs : List ℕ) (n place : ℕ) (p : Part) where
 
   alone-departs : (s : Parsed) (cs : List ℕ) → bs ≡ cs → Alone b → Good (alone-shape at s cs)
   alone-departs s [] is a h = not-refused h
-  alone-departs s (c ∷ cs) is a h =
-      (
-        1,
-        sym h,
-        subst (λ l. Departs (b ∷ l) 1) (sym is) (record {
-          more = [];
-          begins = inr (a, refl);
-          within = omega arith;
-          departs = λ l rest s. ⊎-elim (λ n. alone-apart b a (n .0) (n .1)) (λ x. let y : _≡_ {A = ℕ} (suc (length rest)) 0 = ap length (x .1) in omega arith) s;
-          wrong = λ s. ⊎-elim (λ n. alone-apart b a (n .0) (n .1)) (λ x. let y : _≡_ {A = ℕ} (suc (length cs)) 0 = ap length (x .1) in omega arith) s;
-        }),
-      )
+  alone-departs s (c ∷ cs) is a h = (
+    1,
+    sym h,
+    subst (λ l. Departs (b ∷ l) 1) (sym is) (record {
+      more = [];
+      begins = inr (a, refl);
+      within = omega arith;
+      departs = λ l rest s. ⊎-elim (λ n. alone-apart b a (n .0) (n .1)) (λ x. let y : _≡_ {A = ℕ} (suc (length rest)) 0 = ap length (x .1) in omega arith) s;
+      wrong = λ s. ⊎-elim (λ n. alone-apart b a (n .0) (n .1)) (λ x. let y : _≡_ {A = ℕ} (suc (length cs)) 0 = ap length (x .1) in omega arith) s;
+    }),
+  )
 
   -- a first byte that is no letter of a word
   none-departs : ((f : Family) → b ≡ letter f → ⊥) → (Alone b → ⊥) → Good (refused 13 at part.Word)
-  none-departs no-step no-alone h =
-      (
-        0,
-        sym h ∙ ap (λ m. refused 13 m part.Word) (sym (add-zero at)),
-        record {
-          more = 68 ∷ 49 ∷ [];
-          begins = inl (Dilation, refl, ((λ y. omega arith), (omega arith, omega arith, tt)));
-          within = omega arith;
-          departs = λ l rest s. ⊎-elim (λ n. no-step (n .0) (n .1)) (λ a. no-alone (a .0)) s;
-          wrong = λ s. ⊎-elim (λ n. no-step (n .0) (n .1)) (λ a. no-alone (a .0)) s;
-        },
-      )
+  none-departs no-step no-alone h = (
+    0,
+    sym h ∙ ap (λ m. refused 13 m part.Word) (sym (add-zero at)),
+    record {
+      more = 68 ∷ 49 ∷ [];
+      begins = inl (Dilation, refl, ((λ y. omega arith), (omega arith, omega arith, tt)));
+      within = omega arith;
+      departs = λ l rest s. ⊎-elim (λ n. no-step (n .0) (n .1)) (λ a. no-alone (a .0)) s;
+      wrong = λ s. ⊎-elim (λ n. no-step (n .0) (n .1)) (λ a. no-alone (a .0)) s;
+    },
+  )
 
   pick : (k : ℕ) (x y : Answer Parsed) → (b ≡ k → Good x) → ((b ≡ k → ⊥) → Good y) → Good (cond (eqb b k) x y)
   pick k x y here other = cond-both (eqb b k) x y Good (λ t. here (eqb-true b k t)) (λ t. other (eqb-false b k t))
@@ -159,16 +157,15 @@ module _ (at b : ℕ) (bs : List ℕ) (n place : ℕ) (p : Part) where
       none-departs (by-letter no-d no-e no-o no-c no-a) (λ a. ⊎-elim no-h (λ a. ⊎-elim no-j (λ a. ⊎-elim no-m no-f a) a) a))))))))))
 
 pub shape-departs : (at : ℕ) (bytes : List ℕ) (n place : ℕ) (p : Part) → shape-of at bytes ≡ refused n place p → At at bytes n place p
-shape-departs at [] n place p h =
-    (
-      0,
-      sym h ∙ ap (λ m. refused 13 m part.Word) (sym (add-zero at)),
-      record {
-        more = 68 ∷ 49 ∷ [];
-        begins = inl (Dilation, refl, ((λ y. omega arith), (omega arith, omega arith, tt)));
-        within = omega arith;
-        departs = λ l rest s. omega arith;
-        wrong = λ s. s;
-      },
-    )
+shape-departs at [] n place p h = (
+  0,
+  sym h ∙ ap (λ m. refused 13 m part.Word) (sym (add-zero at)),
+  record {
+    more = 68 ∷ 49 ∷ [];
+    begins = inl (Dilation, refl, ((λ y. omega arith), (omega arith, omega arith, tt)));
+    within = omega arith;
+    departs = λ l rest s. omega arith;
+    wrong = λ s. s;
+  },
+)
 shape-departs at (b ∷ bs) n place p h = first-departs at b bs n place p h

@@ -1,22 +1,16 @@
 -- How a recipe is written: its words with one space between.
 use mathlib.Core.Bool.{cond}
 use mathlib.Core.List.{List, [], _∷_, _++_}
-use Prim.Native.Nat.{ℕ, _+_, _/_, _%_}
+use Prim.Native.Nat.{ℕ, _+_}
 use lib.Dec.{ltb}
 use lib.ListN.{length, take, drop}
+use Rattle.std.specs.Written.{decimal}
 use Rattle.std.specs.Joined.{joined}
 use Rattle.refusal.specs.declared.Part.the-variants as part
 use Rattle.refusal.specs.Reports.{Answer, accepted, refused}
 use Rattle.recipe.specs.declared.words.Word.{Word}
 use Rattle.recipe.specs.declared.words.Word.the-variants.{Step, Hold, Join, Meet, Forget}
 use Rattle.recipe.specs.Grammar.{letter}
-
--- the digits of a number below 1,000
-abbrev pub decimal : ℕ → List ℕ
-decimal n =
-    cond (ltb n 10) ((48 + n % 10) ∷ [])
-    (cond (ltb n 100) ((48 + n / 10 % 10) ∷ (48 + n % 10) ∷ [])
-    ((48 + n / 100 % 10) ∷ (48 + n / 10 % 10) ∷ (48 + n % 10) ∷ []))
 
 -- the bytes of a word: its letter, with the digits of its size
 abbrev pub spelling : Word → List ℕ

@@ -7,11 +7,11 @@ mod drafts;
 mod reading;
 mod recipes;
 mod scanning;
-
+mod showing;
 mod tokens;
 mod turns;
 mod words;
-
+mod writing;
 
 pub use recipes::Recipe;
 pub use turns::Turn;
