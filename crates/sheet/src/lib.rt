@@ -2,14 +2,15 @@
 
 mod holding;
 mod places;
+mod reading;
 mod refused;
 mod releases;
 mod running;
 mod states;
 mod stepping;
 
-pub use refused::Refused;
 pub use refused::RefusalFromRefused;
+pub use refused::Refused;
 pub use states::Clear;
 pub use states::Holding;
 pub use states::Sheet;
