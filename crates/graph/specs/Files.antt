@@ -7,7 +7,7 @@ use Rattle.graph.specs.declared.edges.Edge.{Edge}
 
 -- the number whose four bytes begin at place i
 abbrev pub number-at : List ℕ → ℕ → ℕ
-number-at bs i = getD bs i 0 + 256 * getD bs (i + 1) 0 + 65536 * getD bs (i + 2) 0 + 16777216 * getD bs (i + 3) 0
+number-at bs i = getD bs i 0 + getD bs (i + 1) 0 * 256 + getD bs (i + 2) 0 * 65536 + getD bs (i + 3) 0 * 16777216
 
 -- record k: its two numbers are the ends of an edge
 abbrev pub record-at : List ℕ → ℕ → Edge

@@ -43,8 +43,7 @@ fn read_number(bytes: &[u8], i: usize) -> u32
     requires { ⌜ i + 4 ≤ length (now bytes) ⌝ }
     ensures { λ r. ⌜ r ≡ number-at (now (bytes .entry)) i ⌝ }
 {
-    let low = u32::from(bytes[i]) + 256 * u32::from(bytes[i + 1]);
-    low + 65536 * u32::from(bytes[i + 2]) + 16777216 * u32::from(bytes[i + 3])
+    u32::from_le_bytes([bytes[i], bytes[i + 1], bytes[i + 2], bytes[i + 3]])
 }
 
 /// The record at place k of a graph file.
