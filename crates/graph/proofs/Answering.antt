@@ -10,7 +10,11 @@ use lib.Dec.{leb, ltb, eqb}
 use lib.ListN.{length, getD}
 use Rattle.std.specs.declared.option.Option.the-variants.{None}
 use Rattle.std.proofs.shelf.Ways.{leb-tells, eqb-tells, tells}
-use Rattle.refusal.specs.Reports.{accepted, refused}
+use Rattle.std.specs.Vec.{made}
+use Rattle.std.specs.declared.result.Result.{Result}
+use Rattle.std.specs.declared.result.Result.the-variants.{Ok, Err}
+use Rattle.refusal.specs.Reports.{accepted, answer, refused}
+use Rattle.refusal.specs.declared.Refusal.{Refusal}
 use Rattle.refusal.specs.declared.Part.the-variants as part
 use Rattle.graph.specs.Files.{file-records}
 use Rattle.graph.specs.Graphs.{All-within, Rising, Sound}
@@ -155,9 +159,9 @@ judged n es a said =
       | inr t ↦ judged-records n es a (t .1) (said ∙ rw (t .0))
     ]
 
--- the answer where the counts fit is that to the records
-pub by-records : (n : ℕ) (es : List Edge) (a : Verdict) → large n (length es) ≡ false → a ≡ records-verdict n 0 None es → a ≡ verdict n es
-by-records n es a small said = said ∙ sym (ap (λ b. cond b (refused 2 0 part.Graph) (records-verdict n 0 None es)) small)
+pub judged-made : (n : ℕ) (es : List Edge) (r : Result (Unit {0}) Refusal) → Judged n es (answer r) → made r (λ _. Sound n es)
+judged-made n es (Ok u) right = right .accepts .0 refl
+judged-made n es (Err e) right = tt
 
 -- a refused answer is none of these
 not-accepted : (i k : ℕ) → _≡_ {A = Verdict} (refused i k part.Graph) (accepted tt) → ⊥

@@ -1,3 +1,4 @@
+-- The lemmas that several proofs share.
 pub mod Faults
 pub mod Loops
 pub mod Answering

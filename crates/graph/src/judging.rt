@@ -2,11 +2,13 @@ ghost use mathlib.Core.Bool.{cond};
 ghost use mathlib.Core.Path.{_≡_};
 ghost use lib.ListN.{length};
 ghost use Rattle.graph.specs.Files.{file-records};
+ghost use Rattle.graph.specs.Graphs.{Sound};
 ghost use Rattle.graph.specs.Rules.{File-judged, Judged};
 ghost use Rattle.graph.specs.Shapes.{shape, shape-of};
 ghost use Rattle.graph.specs.Verdicts.{file-verdict, large, record-verdict, records-verdict, verdict};
 ghost use Rattle.refusal.specs.Reports.{answer};
 ghost use Rattle.std.specs.Results.{Cases, isOk};
+ghost use Rattle.std.specs.Vec.{made};
 ghost use Rattle.std.specs.declared.option.Option.the-variants.{None};
 use crate::edges::Edge;
 use crate::graphs::Graph;
@@ -63,6 +65,50 @@ fn too_large(n: usize, m: usize) -> bool
     n > 1_000_000 || m > 4_000_000
 }
 
+/// Judges an edge table for a graph with n vertices.
+fn check_table(n: usize, edges: &[Edge]) -> Result<(), Refusal>
+    ensures { λ r. ⌜ answer r ≡ verdict n (now (edges .entry)) ⌝ }
+{
+    if too_large(n, edges.len()) {
+        return Err(Refusal::GraphTooLarge);
+    }
+    check_records(n, &TableRows(edges))
+}
+
+/// Judges the bytes of a graph file with n vertices, whose edges are to go to a table of m rows.
+fn check_bytes(n: usize, bytes: &[u8], m: usize) -> Result<(), Refusal>
+    ensures { λ r. ⌜ answer r ≡ file-verdict n (now (bytes .entry)) m ⌝ }
+{
+    if bytes.len() % 8 != 0 {
+        return Err(Refusal::PartialEdgeRecord);
+    }
+    let file = FileBytes(bytes);
+    if too_large(n, file.count()) {
+        return Err(Refusal::GraphTooLarge);
+    }
+    if m != file.count() {
+        return Err(Refusal::EdgeTableLength);
+    }
+    check_records(n, &file)
+}
+
+/// Judges an edge table: the answer is the right one, and an accepted table is that of a graph.
+fn accept_table(n: usize, edges: &[Edge]) -> Result<(), Refusal>
+    ensures verdict { λ r. ⌜ answer r ≡ verdict n (now (edges .entry)) ⌝ }
+    ensures judged { λ r. ⌜ Judged n (now (edges .entry)) (answer r) ⌝ }
+    ensures sound { λ r. ⌜ made r (λ _. Sound n (now (edges .entry))) ⌝ }
+{
+    check_table(n, edges)
+}
+
+/// Judges the bytes of a graph file: the answer is the right one.
+fn accept_bytes(n: usize, bytes: &[u8], m: usize) -> Result<(), Refusal>
+    ensures verdict { λ r. ⌜ answer r ≡ file-verdict n (now (bytes .entry)) m ⌝ }
+    ensures judged { λ r. ⌜ File-judged n (now (bytes .entry)) m (answer r) ⌝ }
+{
+    check_bytes(n, bytes, m)
+}
+
 /// Judges an edge table and, where it makes a graph with `n` vertices, puts that graph into the place.
 ///
 /// It refuses more than 1,000,000 vertices or 4,000,000 edges ([`Refusal::GraphTooLarge`]). Then it judges record by record, each
@@ -74,10 +120,7 @@ pub fn judge<'a>(place: &mut Graph<'a>, n: usize, edges: &'a [Edge]) -> Result<(
     ensures judged { λ r. ⌜ Judged n (now (edges .entry)) (answer r) ⌝ }
     ensures filled { λ r. ⌜ Cases r (λ _. shape-of (now (place .exit)) ≡ shape n (now (edges .entry))) (λ _. now (place .exit) ≡ now (place .entry)) ⌝ }
 {
-    if too_large(n, edges.len()) {
-        return Err(Refusal::GraphTooLarge);
-    }
-    check_records(n, &TableRows(edges))?;
+    accept_table(n, edges)?;
     *place = Graph { n, edges };
     Ok(())
 }
@@ -93,17 +136,7 @@ pub fn check_file(n: usize, bytes: &[u8], table: &mut [Edge]) -> Result<(), Refu
     ensures judged { λ r. ⌜ File-judged n (now (bytes .entry)) (length (now (table .entry))) (answer r) ⌝ }
     ensures written { λ r. ⌜ now (table .exit) ≡ cond (isOk r) (file-records (now (bytes .entry))) (now (table .entry)) ⌝ }
 {
-    if bytes.len() % 8 != 0 {
-        return Err(Refusal::PartialEdgeRecord);
-    }
-    let file = FileBytes(bytes);
-    if too_large(n, file.count()) {
-        return Err(Refusal::GraphTooLarge);
-    }
-    if table.len() != file.count() {
-        return Err(Refusal::EdgeTableLength);
-    }
-    check_records(n, &file)?;
-    copy_records(&file, table);
+    accept_bytes(n, bytes, table.len())?;
+    copy_records(&FileBytes(bytes), table);
     Ok(())
 }

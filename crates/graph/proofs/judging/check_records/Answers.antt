@@ -1,3 +1,4 @@
+-- Each turn judges one record more.
 use Prim.Native.Nat.{_<_, _≤_}
 use native.Mathlib.Omega.{arith}
 use lib.ListN.{length}
@@ -17,7 +18,7 @@ returns-in-Break-check-record g c =
     let es = g .R·Records .rows (c .args .records .now) in
     let within : c .loop-k .k < length es = omega arith in
     let p = err-from-errBy (c .from-residual .result) (c .from-residual .ensures .1) in
-    rw (p .1, p .2) (records-more _ _ _ es _ _ _ within (c .at-e .ensures _) (c .in-Break-check-record .ensures tt) (c .loop-k .inv))
+    rw (p .1, p .2) (records-more (c .args .n) (c .loop-k .k) (c .loop-k .last) es (c .at-e .result) _ _ within (c .at-e .ensures _) (c .in-Break-check-record .ensures tt) (c .loop-k .inv))
 
 pub returns : need.returns
 returns g c =

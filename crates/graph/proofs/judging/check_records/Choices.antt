@@ -1,3 +1,4 @@
+-- What the records that are left are answered is what all are answered.
 use mathlib.Core.Path.{_≡_}
 use lib.ListN.{drop}
 use Rattle.std.specs.declared.option.Option.the-variants.{None}

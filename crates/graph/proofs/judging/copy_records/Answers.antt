@@ -1,8 +1,8 @@
-use mathlib.Core.Path.{sym, ap, _∙_}
-use mathlib.Core.List.{_++_, _∷_, []}
+-- Each turn writes one row more.
+use mathlib.Core.Path.{sym, _∙_}
 use Prim.Native.Nat.{_<_, _≤_}
 use native.Mathlib.Omega.{arith}
-use lib.ListN.{length, take}
+use lib.ListN.{length}
 use Rattle.std.proofs.shelf.Lists.{take-more, take-more-set, take-all}
 use Rattle.graph.proofs.judging.copy_records.Needs as need
 
@@ -13,7 +13,10 @@ loop-k-again g c =
     let e = c .at .result in
     let in-es : k < length es = omega arith in
     let in-table : k < length (c .loop-k .table) = omega arith in
-    take-more-set _ k e in-table ∙ ap (λ l. l ++ (e ∷ [])) (c .loop-k .inv) ∙ ap (λ x. take k es ++ (x ∷ [])) (c .at .ensures e) ∙ sym (take-more es k e in-es)
+    let written = take-more-set (c .loop-k .table) k e in-table in
+    let read = take-more es k e in-es in
+    let row = c .at .ensures e in
+    cc
 
 pub returns : need.returns
 returns g c =

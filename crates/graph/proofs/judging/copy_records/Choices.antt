@@ -1,3 +1,4 @@
+-- The rows so far are written.
 use mathlib.Core.Path.{_≡_}
 use lib.ListN.{take}
 use Rattle.graph.proofs.judging.copy_records.Given as given

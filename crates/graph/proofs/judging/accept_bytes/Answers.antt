@@ -1,0 +1,8 @@
+-- What is answered to a graph file is right.
+use Rattle.graph.proofs.Answering.{file-judged}
+use Rattle.graph.proofs.judging.accept_bytes.Needs as need
+
+pub returns : need.returns
+returns c =
+    let said = c .check-bytes .ensures in
+    record { verdict = said; judged = file-judged _ _ _ _ said }
