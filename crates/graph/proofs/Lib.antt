@@ -2,3 +2,4 @@
 pub mod Faults
 pub mod Loops
 pub mod Answering
+pub mod RoundTrip

@@ -1,6 +1,6 @@
 -- The records of a graph file: two numbers of four bytes each, low byte first. Assumes nothing.
-use mathlib.Core.List.{List, map}
-use Prim.Native.Nat.{ℕ, _+_, _*_, _/_}
+use mathlib.Core.List.{List, [], _∷_, _++_, map}
+use Prim.Native.Nat.{ℕ, _+_, _*_, _/_, _%_}
 use lib.ListN.{length, getD}
 use Rattle.std.specs.Iters.{counting}
 use Rattle.graph.specs.declared.edges.Edge.{Edge}
@@ -16,3 +16,15 @@ record-at bs k = record { first = number-at bs (8 * k); second = number-at bs (8
 -- every whole record of a file, in order
 abbrev pub file-records : List ℕ → List Edge
 file-records bs = map (record-at bs) (counting 0 (length bs / 8))
+
+-- a number as four bytes, and an edge as a record
+abbrev pub number-bytes : ℕ → List ℕ
+number-bytes x = x % 256 ∷ x / 256 % 256 ∷ x / 65536 % 256 ∷ x / 16777216 ∷ []
+
+abbrev pub record-bytes : Edge → List ℕ
+record-bytes e = number-bytes (e .first) ++ number-bytes (e .second)
+
+-- the file of these edges
+abbrev pub file-bytes : List Edge → List ℕ
+file-bytes [] = []
+file-bytes (e ∷ es) = record-bytes e ++ file-bytes es

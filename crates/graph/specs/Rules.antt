@@ -45,6 +45,7 @@ pub record Faulty (n : ℕ) (es : List Edge) (k : ℕ) (rule : Rule) : Type 0 wh
 abbrev pub Counts-fit : ℕ → ℕ → Type 0
 Counts-fit n m = (n ≤ 1000000) × (m ≤ 4000000)
 
+-- there are too many vertices, or too many edges
 abbrev pub Too-large : ℕ → ℕ → Type 0
 Too-large n m = (1000000 < n) ⊎ (4000000 < m)
 

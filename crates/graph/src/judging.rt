@@ -1,11 +1,13 @@
-ghost use mathlib.Core.Bool.{cond};
+ghost use mathlib.Core.Bool.{cond, true};
+ghost use mathlib.Core.List.{List};
 ghost use mathlib.Core.Path.{_≡_};
 ghost use lib.ListN.{length};
-ghost use Rattle.graph.specs.Files.{file-records};
+ghost use Rattle.graph.specs.Files.{file-bytes, file-records};
 ghost use Rattle.graph.specs.Graphs.{Sound};
 ghost use Rattle.graph.specs.Rules.{File-judged, Judged};
 ghost use Rattle.graph.specs.Shapes.{shape, shape-of};
 ghost use Rattle.graph.specs.Verdicts.{file-verdict, large, record-verdict, records-verdict, verdict};
+ghost use Rattle.graph.specs.declared.edges.Edge.{Edge};
 ghost use Rattle.refusal.specs.Reports.{answer};
 ghost use Rattle.std.specs.Results.{Cases, isOk};
 ghost use Rattle.std.specs.Vec.{made};
@@ -105,6 +107,7 @@ fn accept_table(n: usize, edges: &[Edge]) -> Result<(), Refusal>
 fn accept_bytes(n: usize, bytes: &[u8], m: usize) -> Result<(), Refusal>
     ensures verdict { λ r. ⌜ answer r ≡ file-verdict n (now (bytes .entry)) m ⌝ }
     ensures judged { λ r. ⌜ File-judged n (now (bytes .entry)) m (answer r) ⌝ }
+    ensures read_back { λ _. ⌜ ((es : List Edge) → now (bytes .entry) ≡ file-bytes es → file-records (now (bytes .entry)) ≡ es) ⌝ }
 {
     check_bytes(n, bytes, m)
 }
@@ -135,6 +138,7 @@ pub fn check_file(n: usize, bytes: &[u8], table: &mut [Edge]) -> Result<(), Refu
     ensures verdict { λ r. ⌜ answer r ≡ file-verdict n (now (bytes .entry)) (length (now (table .entry))) ⌝ }
     ensures judged { λ r. ⌜ File-judged n (now (bytes .entry)) (length (now (table .entry))) (answer r) ⌝ }
     ensures written { λ r. ⌜ now (table .exit) ≡ cond (isOk r) (file-records (now (bytes .entry))) (now (table .entry)) ⌝ }
+    ensures read_back { λ r. ⌜ ((es : List Edge) → now (bytes .entry) ≡ file-bytes es → isOk r ≡ true → now (table .exit) ≡ es) ⌝ }
 {
     accept_bytes(n, bytes, table.len())?;
     copy_records(&FileBytes(bytes), table);

@@ -114,6 +114,15 @@ mod tables {
         check_eq(judged(3, &[edge(0, 2), edge(1, 2)]), ACCEPTED)
     }
 
+    #[test]
+    fn order_of_edges() -> Result<(), Fail> {
+        check(edge(0, 9).is_before(edge(1, 2)))?;
+        check(edge(1, 2).is_before(edge(1, 3)))?;
+        check(!edge(1, 2).is_before(edge(1, 2)))?;
+        check(!edge(1, 3).is_before(edge(1, 2)))?;
+        check(!edge(1, 2).is_before(edge(0, 9)))
+    }
+
     // A record that breaks several rules is refused by the first of them, and the first record that breaks one is refused.
     #[test]
     fn first_fault() -> Result<(), Fail> {
