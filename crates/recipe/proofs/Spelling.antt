@@ -155,3 +155,11 @@ module _ (at b : ℕ) (bs : List ℕ) (f : Family) (ds : List ℕ) (at′ : ℕ)
 pub shape-step : (at : ℕ) (bytes : List ℕ) (f : Family) (ds : List ℕ) (at′ : ℕ) → shape-of at bytes ≡ accepted (step f ds at′) → (bytes ≡ letter f ∷ ds) × Number ds × (at′ ≡ at)
 shape-step at [] f ds at′ h = not-accepted h
 shape-step at (b ∷ bs) f ds at′ h = first-step at b bs f ds at′ h
+
+-- every letter is one byte of text
+pub letter-ascii : (f : Family) → letter f < 128
+letter-ascii Dilation = omega arith
+letter-ascii Erosion = omega arith
+letter-ascii Opening = omega arith
+letter-ascii Closing = omega arith
+letter-ascii Alternate = omega arith

@@ -14,5 +14,12 @@ mod words;
 mod writing;
 
 pub use recipes::Recipe;
+pub use showing::RecipeDebug;
+pub use showing::RecipeDisplay;
+pub use showing::WordDebug;
+pub use showing::WordDisplay;
 pub use turns::Turn;
+pub use turns::TurnDebug;
+pub use turns::TurnEq;
+pub use turns::TurnPartialEq;
 pub use words::Word;

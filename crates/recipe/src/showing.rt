@@ -1,5 +1,8 @@
 //! Words and recipes as a user writes them.
 
+ghost use Rattle.std.specs.declared.option.Option.the-variants.{Some};
+ghost use Rattle.recipe.specs.Contents.{recipe-words};
+ghost use Rattle.recipe.specs.Written.{spelling, written};
 use crate::recipes::Recipe;
 use crate::words::Word;
 use crate::writing::letter_of;
@@ -7,6 +10,8 @@ use std::fmt;
 
 /// A word as in a recipe text: `O3`, `H`.
 pub impl fmt::Display for Word as WordDisplay {
+    ghost shown = { λ w. Some (spelling w) };
+
     fn fmt<W: fmt::Write>(&self, f: &mut fmt::Formatter<W>) -> fmt::Result {
         match self {
             Word::Step(filter) => {
@@ -31,12 +36,15 @@ pub impl fmt::Debug for Word as WordDebug {
 
 /// The words with one space between: `D1 H E1 M`.
 pub impl fmt::Display for Recipe as RecipeDisplay {
+    ghost shown = { λ r. Some (written (recipe-words r)) };
+
     fn fmt<W: fmt::Write>(&self, f: &mut fmt::Formatter<W>) -> fmt::Result {
-        for (i, word) in self.words().iter().enumerate() {
-            if i > 0 {
-                write!(f, " ")?;
-            }
-            write!(f, "{word}")?;
+        let [first, rest @ ..] = self.words() else {
+            return Ok(());
+        };
+        write!(f, "{first}")?;
+        for word in rest {
+            write!(f, " {word}")?;
         }
         Ok(())
     }
