@@ -1,6 +1,7 @@
 -- Presences as a kind: absent below present. Assumes nothing.
 use mathlib.Core.Bool.{Bool, true, false}
 use mathlib.Core.Path.{_≡_}
+use Prim.Native.Nat.{ℕ}
 use Rattle.lattice.specs.Lattices.{Operations}
 use Rattle.lattice.specs.declared.presences.Presence.{Presence}
 use Rattle.lattice.specs.declared.presences.Presence.the-variants.{Absent, Present}
@@ -32,6 +33,11 @@ presence-operations = record { lowest = Absent; highest = Present; join = either
 abbrev pub present-if : Bool → Presence
 present-if true = Present
 present-if false = Absent
+
+-- absent as 0, and present as 1
+abbrev pub presence-number : Presence → ℕ
+presence-number Absent = 0
+presence-number Present = 1
 
 -- what a kind of presences means: absent is the lowest, present the highest, and present is not below absent
 pub record Presences-meant (below : Presence → Presence → Type 0) (k : Operations Presence) : Type 0 where

@@ -1,6 +1,8 @@
 //! The kind of weights that are there or not.
 
-ghost use Rattle.lattice.specs.Presences.{presence-below, presence-operations, Presences-meant};
+ghost use Rattle.std.specs.Written.{decimal};
+ghost use Rattle.std.specs.declared.option.Option.the-variants.{Some};
+ghost use Rattle.lattice.specs.Presences.{presence-below, presence-number, presence-operations, Presences-meant};
 use crate::kinds::Kind;
 use std::fmt;
 
@@ -56,11 +58,13 @@ pub impl Kind for Presence as PresenceKind {
 
 /// Absent is written 0, and present 1.
 pub impl fmt::Display for Presence as PresenceDisplay {
+    ghost shown = { λ x. Some (decimal (presence-number x)) };
+
     fn fmt<W: fmt::Write>(&self, f: &mut fmt::Formatter<W>) -> fmt::Result {
-        let digit = match self {
-            Presence::Absent => "0",
-            Presence::Present => "1",
+        let number: u8 = match self {
+            Presence::Absent => 0,
+            Presence::Present => 1,
         };
-        write!(f, "{digit}")
+        write!(f, "{number}")
     }
 }
