@@ -39,9 +39,9 @@ abbrev pub presence-number : Presence → ℕ
 presence-number Absent = 0
 presence-number Present = 1
 
--- what a kind of presences means: absent is the lowest, present the highest, and present is not below absent
-pub record Presences-meant (below : Presence → Presence → Type 0) (k : Operations Presence) : Type 0 where
+-- the kind of presences: absent is the lowest and present the highest, and present is not below absent
+pub record Presence-kind (below : Presence → Presence → Type 0) (k : Operations Presence) : Type 0 where
   pub lowest : k .lowest ≡ Absent
   pub highest : k .highest ≡ Present
-  pub rising : below Absent Present
-  pub falling : below Present Absent → ⊥
+  pub absent-below-present : below Absent Present
+  pub present-not-below-absent : below Present Absent → ⊥

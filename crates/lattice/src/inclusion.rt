@@ -1,7 +1,7 @@
 //! Which classes are in a set, and the order of sets by inclusion.
 
 ghost use mathlib.Core.Path.{_≡_};
-ghost use Rattle.lattice.specs.ClassSets.{has-class, classes-below, classes-operations, Classes-meant};
+ghost use Rattle.lattice.specs.ClassSets.{has-class, classes-below, classes-operations, Classes-kind};
 use crate::class_sets::Classes;
 use crate::kinds::Kind;
 
@@ -16,7 +16,7 @@ impl Classes {
     /// Shows what the kind means: the sets of classes 0 to 31, ordered by inclusion, the join the union and the meet the
     /// intersection.
     pub fn meaning()
-        ensures { λ _. ⌜ Classes-meant classes-below classes-operations ⌝ }
+        ensures { λ _. ⌜ Classes-kind classes-below classes-operations ⌝ }
     {}
 }
 

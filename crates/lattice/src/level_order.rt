@@ -1,6 +1,6 @@
 //! The order of levels.
 
-ghost use Rattle.lattice.specs.Levels.{level-below, level-operations, Levels-meant};
+ghost use Rattle.lattice.specs.Levels.{level-below, level-operations, Level-kind};
 use crate::kinds::Kind;
 use crate::levels::Level;
 
@@ -41,6 +41,6 @@ pub impl Kind for Level as LevelKind {
 impl Level {
     /// Shows what the kind means: the numbers 0 to 65,535 in the usual order, the join the larger and the meet the smaller.
     pub fn meaning()
-        ensures { λ _. ⌜ Levels-meant level-below level-operations ⌝ }
+        ensures { λ _. ⌜ Level-kind level-below level-operations ⌝ }
     {}
 }

@@ -2,7 +2,7 @@
 
 ghost use Rattle.std.specs.Written.{decimal};
 ghost use Rattle.std.specs.declared.option.Option.the-variants.{Some};
-ghost use Rattle.lattice.specs.Presences.{presence-below, presence-number, presence-operations, Presences-meant};
+ghost use Rattle.lattice.specs.Presences.{presence-below, presence-number, presence-operations, Presence-kind};
 use crate::kinds::Kind;
 use std::fmt;
 
@@ -17,7 +17,7 @@ pub enum Presence {
 impl Presence {
     /// Shows what the kind means: absent and present, absent below present and not the other way.
     pub fn meaning()
-        ensures { λ _. ⌜ Presences-meant presence-below presence-operations ⌝ }
+        ensures { λ _. ⌜ Presence-kind presence-below presence-operations ⌝ }
     {}
 }
 
