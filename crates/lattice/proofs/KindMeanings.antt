@@ -5,7 +5,7 @@ use mathlib.Core.Path.{refl}
 use Rattle.lattice.specs.ClassSets.{classes-below, classes-operations, Classes-kind}
 use Rattle.lattice.specs.Levels.{level, level-below, level-operations, Level-kind}
 use Rattle.lattice.proofs.SameValues.{same-level, same-classes}
-use Rattle.lattice.proofs.SetBits.{is-in-or, is-in-and, is-in-none, is-in-all, none-past, same-set}
+use Rattle.lattice.proofs.SetBits.{in-union, in-intersection, is-in-none, is-in-all, none-past, same-set}
 
 pub level-kind : Level-kind level-below level-operations
 level-kind = record {
@@ -26,6 +26,6 @@ classes-kind = record {
   order = λ x y. (λ f. f, λ f. f);
   lowest = is-in-none;
   highest = is-in-all;
-  join = λ x y c. is-in-or c (x .bits) (y .bits);
-  meet = λ x y c. is-in-and c (x .bits) (y .bits);
+  join = λ x y c. in-union c x y;
+  meet = λ x y c. in-intersection c x y;
 }

@@ -3,7 +3,7 @@ use mathlib.Core.Bool.{Bool, true, false, _&&_, _||_}
 use mathlib.Core.Path.{_≡_}
 use Prim.Native.Nat.{ℕ, _/_, _%_, _^_, _<_, _≤_}
 use native.Mathlib.Nat.{mod-lt, zero-lt-suc}
-use lib.Bits.{bitAnd, bitOr, and-lt, or-lt}
+use lib.Bits.{bitAnd, bitOr}
 use lib.Dec.{eqb}
 use Rattle.lattice.specs.Lattices.{Operations}
 use Rattle.lattice.specs.declared.class_sets.Classes.{Classes}
@@ -32,10 +32,10 @@ abbrev pub classes-below : Classes → Classes → Type 0
 classes-below = Included
 
 abbrev pub union : Classes → Classes → Classes
-union x y = record { bits = bitOr (x .bits) (y .bits); fits = or-lt 32 (x .bits) (y .bits) (x .fits) (y .fits) }
+union x y = classes-of (bitOr (x .bits) (y .bits))
 
 abbrev pub intersection : Classes → Classes → Classes
-intersection x y = record { bits = bitAnd (x .bits) (y .bits); fits = and-lt 32 (x .bits) (y .bits) (x .fits) (y .fits) }
+intersection x y = classes-of (bitAnd (x .bits) (y .bits))
 
 abbrev pub classes-operations : Operations Classes
 classes-operations = record { lowest = classes-of 0; highest = classes-of 4294967295; join = union; meet = intersection }
