@@ -1,6 +1,7 @@
 //! The order of levels.
 
-ghost use Rattle.lattice.specs.Levels.{level-below, level-operations, Level-kind};
+ghost use mathlib.Core.Path.{_≡_};
+ghost use Rattle.lattice.specs.Levels.{level, level-below, level-operations, Level-kind};
 use crate::kinds::Kind;
 use crate::levels::Level;
 
@@ -10,11 +11,11 @@ pub impl Kind for Level as LevelKind {
     ghost operations = { level-operations };
 
     fn lowest() -> Level {
-        Level { value: 0 }
+        Level::of_number(0)
     }
 
     fn highest() -> Level {
-        Level { value: 65535 }
+        Level::of_number(65535)
     }
 
     fn join(self, other: Level) -> Level {
@@ -39,6 +40,13 @@ pub impl Kind for Level as LevelKind {
 }
 
 impl Level {
+    /// The level of a number, all of it: a level is its number and nothing else.
+    fn of_number(value: u16) -> Level
+        ensures { λ r. ⌜ r ≡ level value ⌝ }
+    {
+        Level { value }
+    }
+
     /// Shows what the kind means: the numbers 0 to 65,535 in the usual order, the join the larger and the meet the smaller.
     pub fn meaning()
         ensures { λ _. ⌜ Level-kind level-below level-operations ⌝ }

@@ -48,6 +48,7 @@ pub fn read_join<R: Reading>(reading: &R, x: R::Source, y: R::Source) -> R::Targ
     ensures value { λ r. ⌜ r ≡ R·Reading .image (now (reading .entry)) (Source·Kind .operations .join x y) ⌝ }
     ensures same { λ r. ⌜ r ≡ Target·Kind .operations .join (R·Reading .image (now (reading .entry)) x) (R·Reading .image (now (reading .entry)) y) ⌝ }
 {
+    reading.keeps_all();
     reading.read(x.join(y))
 }
 
@@ -56,5 +57,6 @@ pub fn read_meet<R: Reading>(reading: &R, x: R::Source, y: R::Source) -> R::Targ
     ensures value { λ r. ⌜ r ≡ R·Reading .image (now (reading .entry)) (Source·Kind .operations .meet x y) ⌝ }
     ensures same { λ r. ⌜ r ≡ Target·Kind .operations .meet (R·Reading .image (now (reading .entry)) x) (R·Reading .image (now (reading .entry)) y) ⌝ }
 {
+    reading.keeps_all();
     reading.read(x.meet(y))
 }

@@ -1,6 +1,6 @@
 use Rattle.std.proofs.shelf.Tests.{eqb-true, eq-eqb}
 use Rattle.lattice.proofs.SetBits.{included-from-and, and-from-included}
-use Rattle.lattice.proofs.inclusion.ClassesKind.is_below.Needs as need
+use Rattle.lattice.proofs.class_sets.Classes.is_subset.Needs as need
 
 pub returns : need.returns
 returns c =

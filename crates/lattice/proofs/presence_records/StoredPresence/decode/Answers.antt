@@ -4,7 +4,7 @@ use native.Mathlib.Omega.{arith}
 use lib.ListN.{getD}
 use Rattle.lattice.specs.Records.{presence-of}
 use Rattle.lattice.proofs.Decoded.{presence-read, no-presence}
-use Rattle.lattice.proofs.records.StoredPresence.decode.Needs as need
+use Rattle.lattice.proofs.presence_records.StoredPresence.decode.Needs as need
 
 pub returns-in-0 : need.returns-in-0
 returns-in-0 c = sym (presence-read (c .args .bytes .now) (omega (arith, ltb-true, ltb-false)) ∙ ap presence-of (c .in-0 .is))
