@@ -14,7 +14,7 @@ use Rattle.lattice.specs.declared.presences.Presence.the-variants.{Present}
 use Rattle.lattice.proofs.ChainMaps.{chain-morphism}
 use Rattle.lattice.proofs.KindLaws.{presence-lattice}
 use Rattle.lattice.proofs.PresenceTests.{if-true, either-if, both-if}
-use Rattle.lattice.proofs.SetBits.{is-in-none, is-in-all, is-in-or, is-in-and}
+use Rattle.lattice.proofs.SetBits.{is-in-none, is-in-all, in-union, in-intersection}
 
 module _ {K : Type 0} {below : K → K → Type 0} {k : Operations K} (laws : Lattice below k) {leq : K → K → Bool} (total : Total below leq) (t : K) where
   rises : (x y : K) → below x y → cut-at leq t x ≡ Present → cut-at leq t y ≡ Present
@@ -34,6 +34,6 @@ pub pick-morphism : (c : ℕ) → c < 32 → Morphism classes-operations presenc
 pick-morphism c h = record {
   lowest = ap present-if (is-in-none c);
   highest = ap present-if (is-in-all c h);
-  join = λ x y. ap present-if (is-in-or c (x .bits) (y .bits)) ∙ either-if (has-class c x) (has-class c y);
-  meet = λ x y. ap present-if (is-in-and c (x .bits) (y .bits)) ∙ both-if (has-class c x) (has-class c y);
+  join = λ x y. ap present-if (in-union c x y) ∙ either-if (has-class c x) (has-class c y);
+  meet = λ x y. ap present-if (in-intersection c x y) ∙ both-if (has-class c x) (has-class c y);
 }

@@ -11,7 +11,7 @@ use Rattle.lattice.specs.Levels.{level-below, level-operations}
 use Rattle.lattice.specs.Presences.{presence-below, presence-operations}
 use Rattle.lattice.specs.declared.class_sets.Classes.{Classes}
 use Rattle.lattice.proofs.SameValues.{same-level, same-classes}
-use Rattle.lattice.proofs.SetBits.{is-in-or, is-in-and, is-in-none, is-in-all, same-set, same-test, included-from-and, and-from-included}
+use Rattle.lattice.proofs.SetBits.{in-union, in-intersection, is-in-none, is-in-all, same-set, same-test, included-from-and, and-from-included}
 
 pub presence-lattice : Lattice presence-below presence-operations
 presence-lattice = search needs
@@ -28,12 +28,12 @@ classes-lattice = record {
   };
   lowest-below = λ x k h i. absurd (false≢true (sym (is-in-none k) ∙ i));
   below-highest = λ x k h i. is-in-all k h;
-  below-join-left = λ x y k h i. is-in-or k (x .bits) (y .bits) ∙ or-left _ _ i;
-  below-join-right = λ x y k h i. is-in-or k (x .bits) (y .bits) ∙ or-right _ _ i;
-  join-below = λ x y z f g k h i. ⊎-elim (f k h) (g k h) (or-cases _ _ (sym (is-in-or k (x .bits) (y .bits)) ∙ i));
-  meet-below-left = λ x y k h i. and-parts _ _ (sym (is-in-and k (x .bits) (y .bits)) ∙ i) .0;
-  meet-below-right = λ x y k h i. and-parts _ _ (sym (is-in-and k (x .bits) (y .bits)) ∙ i) .1;
-  below-meet = λ x y z f g k h i. is-in-and k (x .bits) (y .bits) ∙ and-from _ _ (f k h i) (g k h i);
+  below-join-left = λ x y k h i. in-union k x y ∙ or-left _ _ i;
+  below-join-right = λ x y k h i. in-union k x y ∙ or-right _ _ i;
+  join-below = λ x y z f g k h i. ⊎-elim (f k h) (g k h) (or-cases _ _ (sym (in-union k x y) ∙ i));
+  meet-below-left = λ x y k h i. and-parts _ _ (sym (in-intersection k x y) ∙ i) .0;
+  meet-below-right = λ x y k h i. and-parts _ _ (sym (in-intersection k x y) ∙ i) .1;
+  below-meet = λ x y z f g k h i. in-intersection k x y ∙ and-from _ _ (f k h i) (g k h i);
 }
 
 pub classes-decided : (x y : Classes) → Decides (classes-leq x y) (classes-below x y)

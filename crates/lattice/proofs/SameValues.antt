@@ -3,6 +3,8 @@ use mathlib.Core.HLevel.{Σ-prop-path}
 use mathlib.Core.Path.{_≡_, ap}
 use Prim.Native.Nat.{ℕ, suc, _<_, _^_}
 use native.Mathlib.Bridge.{le-prop}
+use native.Mathlib.Nat.{mod-eq-of-lt}
+use Rattle.lattice.specs.ClassSets.{classes-of}
 use Rattle.lattice.specs.declared.class_sets.Classes.{Classes}
 use Rattle.lattice.specs.declared.levels.Level.{Level}
 
@@ -15,3 +17,7 @@ same-level x y = same-under 65536 (λ p. record { value = p .0; fits = p .1 }) (
 
 pub same-classes : (x y : Classes) → x .bits ≡ y .bits → x ≡ y
 same-classes x y = same-under (2 ^ 32) (λ p. record { bits = p .0; fits = p .1 }) (x .bits) (y .bits) (x .fits) (y .fits)
+
+-- a set is that of its number
+pub classes-known : (x : Classes) → classes-of (x .bits) ≡ x
+classes-known x = same-classes (classes-of (x .bits)) x (mod-eq-of-lt (x .fits))

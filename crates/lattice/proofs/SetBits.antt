@@ -6,11 +6,12 @@ use native.Mathlib.Nat.{pow-suc, div-eq-of-lt, div-self, zero-div, mod-eq-of-lt}
 use mathlib.Core.Logic.{inl, inr}
 use native.Mathlib.Omega.{arith}
 use lib.Pow.{pow-mono}
-use lib.Bits.{bitAnd, bitOr, and-step, or-step, and-shr, or-shr, and-lt, and-mask}
+use lib.Bits.{bitAnd, bitOr, and-step, or-step, and-shr, or-shr, and-lt, or-lt, and-mask}
 use Rattle.std.proofs.shelf.Bits.{shr-shr, pow-below, pow-pos}
 use Rattle.std.proofs.shelf.Tests.{cases-eq, eq-eqb, ne-eqb, eqb-true, eqb-false, and-parts}
 use Rattle.std.proofs.shelf.Ways.{tells}
-use Rattle.lattice.specs.ClassSets.{is-in}
+use Rattle.lattice.specs.ClassSets.{is-in, has-class, union, intersection}
+use Rattle.lattice.specs.declared.class_sets.Classes.{Classes}
 
 abbrev bit : ℕ → ℕ → ℕ
 bit k n = n / 2 ^ k % 2
@@ -84,3 +85,17 @@ included-from-and a b e k i = and-parts _ _ (sym (is-in-and k a b) ∙ ap (is-in
 pub and-from-included : (a b : ℕ) → a < 2 ^ 32 → b < 2 ^ 32 → ((k : ℕ) → k < 32 → is-in k a ≡ true → is-in k b ≡ true) → bitAnd a b ≡ a
 and-from-included a b p q f =
     same-set (bitAnd a b) a (and-lt 32 a b p q) p (λ k h. is-in-and k a b ∙ absorbed (is-in k a) (is-in k b) (f k h))
+
+pub union-bits : (x y : Classes) → union x y .bits ≡ bitOr (x .bits) (y .bits)
+union-bits x y = mod-eq-of-lt (or-lt 32 (x .bits) (y .bits) (x .fits) (y .fits))
+
+pub intersection-bits : (x y : Classes) → intersection x y .bits ≡ bitAnd (x .bits) (y .bits)
+intersection-bits x y = mod-eq-of-lt (and-lt 32 (x .bits) (y .bits) (x .fits) (y .fits))
+
+-- a class is in the union where it is in one of the two
+pub in-union : (k : ℕ) (x y : Classes) → has-class k (union x y) ≡ (has-class k x || has-class k y)
+in-union k x y = ap (is-in k) (union-bits x y) ∙ is-in-or k (x .bits) (y .bits)
+
+-- a class is in the intersection where it is in both
+pub in-intersection : (k : ℕ) (x y : Classes) → has-class k (intersection x y) ≡ (has-class k x && has-class k y)
+in-intersection k x y = ap (is-in k) (intersection-bits x y) ∙ is-in-and k (x .bits) (y .bits)

@@ -1,9 +1,9 @@
 -- Sets of classes as a kind: ordered by inclusion, with union and intersection. Assumes nothing.
 use mathlib.Core.Bool.{Bool, true, false, _&&_, _||_}
 use mathlib.Core.Path.{_≡_}
-use Prim.Native.Nat.{ℕ, _/_, _%_, _^_, _<_}
+use Prim.Native.Nat.{ℕ, _/_, _%_, _^_, _<_, _≤_}
 use native.Mathlib.Nat.{mod-lt, zero-lt-suc}
-use lib.Bits.{bitAnd, bitOr, and-lt, or-lt}
+use lib.Bits.{bitAnd, bitOr}
 use lib.Dec.{eqb}
 use Rattle.lattice.specs.Lattices.{Operations}
 use Rattle.lattice.specs.declared.class_sets.Classes.{Classes}
@@ -24,29 +24,32 @@ classes-number x = x .bits
 abbrev pub classes-of : ℕ → Classes
 classes-of n = record { bits = n % 2 ^ 32; fits = mod-lt n (zero-lt-suc 4294967295) }
 
--- inclusion: each of the classes 0 to 31 that is in the first is in the second
+-- each of the classes 0 to 31 that is in the first set is in the second
+abbrev pub Included : Classes → Classes → Type 0
+Included x y = (k : ℕ) → k < 32 → has-class k x ≡ true → has-class k y ≡ true
+
 abbrev pub classes-below : Classes → Classes → Type 0
-classes-below x y = (k : ℕ) → k < 32 → has-class k x ≡ true → has-class k y ≡ true
+classes-below = Included
 
 -- the same as a test: the classes in both are those in the first
 abbrev pub classes-leq : Classes → Classes → Bool
 classes-leq x y = eqb (bitAnd (x .bits) (y .bits)) (x .bits)
 
 abbrev pub union : Classes → Classes → Classes
-union x y = record { bits = bitOr (x .bits) (y .bits); fits = or-lt 32 (x .bits) (y .bits) (x .fits) (y .fits) }
+union x y = classes-of (bitOr (x .bits) (y .bits))
 
 abbrev pub intersection : Classes → Classes → Classes
-intersection x y = record { bits = bitAnd (x .bits) (y .bits); fits = and-lt 32 (x .bits) (y .bits) (x .fits) (y .fits) }
+intersection x y = classes-of (bitAnd (x .bits) (y .bits))
 
 abbrev pub classes-operations : Operations Classes
 classes-operations = record { lowest = classes-of 0; highest = classes-of 4294967295; join = union; meet = intersection }
 
--- what a kind of class sets means: a set is known by which of the classes 0 to 31 are in it, and it has no others; below is
--- inclusion, the ends are the set of none and the set of all, and a class is in the join where it is in one, in the meet where in both
-pub record Classes-meant (below : Classes → Classes → Type 0) (k : Operations Classes) : Type 0 where
+-- the kind of class sets: a set is known by which of the classes 0 to 31 are in it; below is inclusion, the ends are the set of
+-- none and the set of all, a class is in the join where it is in one of the two, and in the meet where it is in both
+pub record Classes-kind (below : Classes → Classes → Type 0) (k : Operations Classes) : Type 0 where
   pub known : (x y : Classes) → ((c : ℕ) → c < 32 → has-class c x ≡ has-class c y) → x ≡ y
-  pub rising : (x y : Classes) → below x y → (c : ℕ) → c < 32 → has-class c x ≡ true → has-class c y ≡ true
-  pub risen : (x y : Classes) → ((c : ℕ) → c < 32 → has-class c x ≡ true → has-class c y ≡ true) → below x y
+  pub no-others : (x : Classes) (c : ℕ) → 32 ≤ c → has-class c x ≡ false
+  pub order : (x y : Classes) → (below x y → Included x y) × (Included x y → below x y)
   pub lowest : (c : ℕ) → has-class c (k .lowest) ≡ false
   pub highest : (c : ℕ) → c < 32 → has-class c (k .highest) ≡ true
   pub join : (x y : Classes) (c : ℕ) → has-class c (k .join x y) ≡ (has-class c x || has-class c y)

@@ -31,13 +31,12 @@ level-operations = record {
   meet = λ x y. cond (level-leq y x) y x;
 }
 
--- what a kind of levels means: each is its number, from 0 to 65,535, and the order is the usual order of the numbers
-pub record Levels-meant (below : Level → Level → Type 0) (k : Operations Level) : Type 0 where
-  pub numbers : (n : ℕ) → n ≤ 65535 → level-number (level n) ≡ n
-  pub no-others : (x : Level) → level (level-number x) ≡ x
-  pub within : (x : Level) → level-number x ≤ 65535
-  pub rising : (x y : Level) → below x y → level-number x ≤ level-number y
-  pub risen : (x y : Level) → level-number x ≤ level-number y → below x y
+-- the kind of levels: each is a number from 0 to 65,535 and each such number is one, in the usual order of the numbers
+pub record Level-kind (below : Level → Level → Type 0) (k : Operations Level) : Type 0 where
+  pub number : (n : ℕ) → n ≤ 65535 → level-number (level n) ≡ n
+  pub known : (x : Level) → level (level-number x) ≡ x
+  pub bound : (x : Level) → level-number x ≤ 65535
+  pub order : (x y : Level) → (below x y → level-number x ≤ level-number y) × (level-number x ≤ level-number y → below x y)
   pub lowest : level-number (k .lowest) ≡ 0
   pub highest : level-number (k .highest) ≡ 65535
   pub join : (x y : Level) → level-number (k .join x y) ≡ max (level-number x) (level-number y)

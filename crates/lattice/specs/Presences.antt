@@ -1,6 +1,7 @@
 -- Presences as a kind: absent below present. Assumes nothing.
 use mathlib.Core.Bool.{Bool, true, false}
 use mathlib.Core.Path.{_≡_}
+use Prim.Native.Nat.{ℕ}
 use Rattle.lattice.specs.Lattices.{Operations}
 use Rattle.lattice.specs.declared.presences.Presence.{Presence}
 use Rattle.lattice.specs.declared.presences.Presence.the-variants.{Absent, Present}
@@ -33,9 +34,14 @@ abbrev pub present-if : Bool → Presence
 present-if true = Present
 present-if false = Absent
 
--- what a kind of presences means: absent is the lowest, present the highest, and present is not below absent
-pub record Presences-meant (below : Presence → Presence → Type 0) (k : Operations Presence) : Type 0 where
+-- absent as 0, and present as 1
+abbrev pub presence-number : Presence → ℕ
+presence-number Absent = 0
+presence-number Present = 1
+
+-- the kind of presences: absent is the lowest and present the highest, and present is not below absent
+pub record Presence-kind (below : Presence → Presence → Type 0) (k : Operations Presence) : Type 0 where
   pub lowest : k .lowest ≡ Absent
   pub highest : k .highest ≡ Present
-  pub rising : below Absent Present
-  pub falling : below Present Absent → ⊥
+  pub absent-below-present : below Absent Present
+  pub present-not-below-absent : below Present Absent → ⊥

@@ -8,6 +8,7 @@ use Rattle.std.specs.declared.option.Option.{Option}
 use Rattle.std.specs.declared.option.Option.the-variants.{Some, None}
 use Rattle.lattice.specs.ClassSets.{classes-of, classes-number}
 use Rattle.lattice.specs.Levels.{level, level-number}
+use Rattle.lattice.specs.Presences.{presence-number}
 use Rattle.lattice.specs.Reversals.{reversal}
 use Rattle.lattice.specs.declared.class_sets.Classes.{Classes}
 use Rattle.lattice.specs.declared.levels.Level.{Level}
@@ -32,10 +33,6 @@ of-width w value bs = cond (eqb (length bs) w) (value (little-endian bs)) None
 -- 0 is absent, 1 present, and no other number a presence
 abbrev pub presence-of : ℕ → Option Presence
 presence-of n = cond (eqb n 0) (Some Absent) (cond (eqb n 1) (Some Present) None)
-
-abbrev pub presence-number : Presence → ℕ
-presence-number Absent = 0
-presence-number Present = 1
 
 abbrev pub parsed-presence : List ℕ → Option Presence
 parsed-presence = of-width 1 presence-of

@@ -2,6 +2,8 @@
 
 ghost use mathlib.Core.Path.{_≡_};
 ghost use Prim.Native.Nat.{_<_, _^_};
+ghost use Rattle.std.specs.Written.{decimal};
+ghost use Rattle.std.specs.declared.option.Option.the-variants.{Some};
 use std::fmt;
 
 /// A set of classes 0 to 31, ordered by inclusion. Bit k tells whether class k is in it.
@@ -30,6 +32,8 @@ impl Classes {
 
 /// The set as a number, in decimal digits.
 pub impl fmt::Display for Classes as ClassesDisplay {
+    ghost shown = { λ x. Some (decimal (x .bits)) };
+
     fn fmt<W: fmt::Write>(&self, f: &mut fmt::Formatter<W>) -> fmt::Result {
         let bits = self.bits;
         write!(f, "{bits}")

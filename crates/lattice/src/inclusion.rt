@@ -1,7 +1,8 @@
 //! Which classes are in a set, and the order of sets by inclusion.
 
 ghost use mathlib.Core.Path.{_≡_};
-ghost use Rattle.lattice.specs.ClassSets.{has-class, classes-below, classes-leq, classes-operations, Classes-meant};
+ghost use Rattle.std.specs.Orderings.{Decides};
+ghost use Rattle.lattice.specs.ClassSets.{has-class, classes-of, Included, classes-below, classes-leq, classes-operations, Classes-kind};
 use crate::class_sets::Classes;
 use crate::kinds::Kind;
 
@@ -13,10 +14,25 @@ impl Classes {
         k < 32 && (self.bits >> k) % 2 == 1
     }
 
+    /// The set that a number is, all of it: a set is its bits and nothing else.
+    fn of_number(bits: u32) -> Classes
+        ensures { λ r. ⌜ r ≡ classes-of bits ⌝ }
+    {
+        Classes { bits }
+    }
+
+    /// Whether each class in this set is in the other.
+    fn is_subset(self, other: Classes) -> bool
+        ensures value { λ r. ⌜ r ≡ classes-leq self other ⌝ }
+        ensures exact { λ r. ⌜ Decides r (Included self other) ⌝ }
+    {
+        self.bits & other.bits == self.bits
+    }
+
     /// Shows what the kind means: the sets of classes 0 to 31, ordered by inclusion, the join the union and the meet the
     /// intersection.
     pub fn meaning()
-        ensures { λ _. ⌜ Classes-meant classes-below classes-operations ⌝ }
+        ensures { λ _. ⌜ Classes-kind classes-below classes-operations ⌝ }
     {}
 }
 
@@ -28,26 +44,22 @@ pub impl Kind for Classes as ClassesKind {
     ghost leq = { classes-leq };
 
     fn lowest() -> Classes {
-        Classes { bits: 0 }
+        Classes::of_number(0)
     }
 
     fn highest() -> Classes {
-        Classes { bits: 0xffff_ffff }
+        Classes::of_number(0xffff_ffff)
     }
 
     fn join(self, other: Classes) -> Classes {
-        Classes {
-            bits: self.bits | other.bits,
-        }
+        Classes::of_number(self.bits | other.bits)
     }
 
     fn meet(self, other: Classes) -> Classes {
-        Classes {
-            bits: self.bits & other.bits,
-        }
+        Classes::of_number(self.bits & other.bits)
     }
 
     fn is_below(self, other: Classes) -> bool {
-        self.bits & other.bits == self.bits
+        self.is_subset(other)
     }
 }

@@ -1,6 +1,7 @@
 //! The order of levels.
 
-ghost use Rattle.lattice.specs.Levels.{level-below, level-leq, level-operations, Levels-meant};
+ghost use mathlib.Core.Path.{_≡_};
+ghost use Rattle.lattice.specs.Levels.{level, level-below, level-leq, level-operations, Level-kind};
 use crate::kinds::Kind;
 use crate::levels::Level;
 
@@ -12,11 +13,11 @@ pub impl Kind for Level as LevelKind {
     ghost leq = { level-leq };
 
     fn lowest() -> Level {
-        Level { value: 0 }
+        Level::of_number(0)
     }
 
     fn highest() -> Level {
-        Level { value: 65535 }
+        Level::of_number(65535)
     }
 
     fn join(self, other: Level) -> Level {
@@ -41,8 +42,15 @@ pub impl Kind for Level as LevelKind {
 }
 
 impl Level {
+    /// The level of a number, all of it: a level is its number and nothing else.
+    fn of_number(value: u16) -> Level
+        ensures { λ r. ⌜ r ≡ level value ⌝ }
+    {
+        Level { value }
+    }
+
     /// Shows what the kind means: the numbers 0 to 65,535 in the usual order, the join the larger and the meet the smaller.
     pub fn meaning()
-        ensures { λ _. ⌜ Levels-meant level-below level-operations ⌝ }
+        ensures { λ _. ⌜ Level-kind level-below level-operations ⌝ }
     {}
 }

@@ -2,6 +2,8 @@
 
 ghost use mathlib.Core.Path.{_≡_};
 ghost use Prim.Native.Nat.{_<_};
+ghost use Rattle.std.specs.Written.{decimal};
+ghost use Rattle.std.specs.declared.option.Option.the-variants.{Some};
 use std::fmt;
 
 /// A number from 0 to 65,535, in the usual order.
@@ -30,6 +32,8 @@ impl Level {
 
 /// The number, in decimal digits.
 pub impl fmt::Display for Level as LevelDisplay {
+    ghost shown = { λ x. Some (decimal (x .value)) };
+
     fn fmt<W: fmt::Write>(&self, f: &mut fmt::Formatter<W>) -> fmt::Result {
         let value = self.value;
         write!(f, "{value}")

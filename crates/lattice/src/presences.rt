@@ -1,6 +1,8 @@
 //! The kind of weights that are there or not.
 
-ghost use Rattle.lattice.specs.Presences.{presence-below, presence-leq, presence-operations, Presences-meant};
+ghost use Rattle.std.specs.Written.{decimal};
+ghost use Rattle.std.specs.declared.option.Option.the-variants.{Some};
+ghost use Rattle.lattice.specs.Presences.{presence-below, presence-leq, presence-number, presence-operations, Presence-kind};
 use crate::kinds::Kind;
 use std::fmt;
 
@@ -15,7 +17,7 @@ pub enum Presence {
 impl Presence {
     /// Shows what the kind means: absent and present, absent below present and not the other way.
     pub fn meaning()
-        ensures { λ _. ⌜ Presences-meant presence-below presence-operations ⌝ }
+        ensures { λ _. ⌜ Presence-kind presence-below presence-operations ⌝ }
     {}
 }
 
@@ -58,11 +60,13 @@ pub impl Kind for Presence as PresenceKind {
 
 /// Absent is written 0, and present 1.
 pub impl fmt::Display for Presence as PresenceDisplay {
+    ghost shown = { λ x. Some (decimal (presence-number x)) };
+
     fn fmt<W: fmt::Write>(&self, f: &mut fmt::Formatter<W>) -> fmt::Result {
-        let digit = match self {
-            Presence::Absent => "0",
-            Presence::Present => "1",
+        let number: u8 = match self {
+            Presence::Absent => 0,
+            Presence::Present => 1,
         };
-        write!(f, "{digit}")
+        write!(f, "{number}")
     }
 }

@@ -21,40 +21,42 @@ pub trait Reading {
     fn read(&self, weight: Self::Source) -> Self::Target
         ensures { λ r. ⌜ r ≡ image (now (self .entry)) weight ⌝ };
 
-    /// Reads the lowest value: it is the lowest.
-    fn read_lowest(&self) -> Self::Target
-        ensures value { λ r. ⌜ r ≡ image (now (self .entry)) (Source·Kind .operations .lowest) ⌝ }
-        ensures same { λ r. ⌜ r ≡ Target·Kind .operations .lowest ⌝ }
-    {
-        self.read(Self::Source::lowest())
-    }
-
-    /// Reads the highest value: it is the highest.
-    fn read_highest(&self) -> Self::Target
-        ensures value { λ r. ⌜ r ≡ image (now (self .entry)) (Source·Kind .operations .highest) ⌝ }
-        ensures same { λ r. ⌜ r ≡ Target·Kind .operations .highest ⌝ }
-    {
-        self.read(Self::Source::highest())
-    }
-
-    /// Reads the join of two values: it is the join of what they are read as.
-    fn read_join(&self, x: Self::Source, y: Self::Source) -> Self::Target
-        ensures value { λ r. ⌜ r ≡ image (now (self .entry)) (Source·Kind .operations .join x y) ⌝ }
-        ensures same { λ r. ⌜ r ≡ Target·Kind .operations .join (image (now (self .entry)) x) (image (now (self .entry)) y) ⌝ }
-    {
-        self.read(x.join(y))
-    }
-
-    /// Reads the meet of two values: it is the meet of what they are read as.
-    fn read_meet(&self, x: Self::Source, y: Self::Source) -> Self::Target
-        ensures value { λ r. ⌜ r ≡ image (now (self .entry)) (Source·Kind .operations .meet x y) ⌝ }
-        ensures same { λ r. ⌜ r ≡ Target·Kind .operations .meet (image (now (self .entry)) x) (image (now (self .entry)) y) ⌝ }
-    {
-        self.read(x.meet(y))
-    }
-
     /// Shows that the reading keeps the ends, all joins and all meets.
     fn keeps_all(&self)
         ensures { λ _. ⌜ Morphism (Source·Kind .operations) (Target·Kind .operations) (image (now (self .entry))) ⌝ }
     {}
+}
+
+/// Reads the lowest value: it is the lowest.
+pub fn read_lowest<R: Reading>(reading: &R) -> R::Target
+    ensures value { λ r. ⌜ r ≡ R·Reading .image (now (reading .entry)) (Source·Kind .operations .lowest) ⌝ }
+    ensures same { λ r. ⌜ r ≡ Target·Kind .operations .lowest ⌝ }
+{
+    reading.read(R::Source::lowest())
+}
+
+/// Reads the highest value: it is the highest.
+pub fn read_highest<R: Reading>(reading: &R) -> R::Target
+    ensures value { λ r. ⌜ r ≡ R·Reading .image (now (reading .entry)) (Source·Kind .operations .highest) ⌝ }
+    ensures same { λ r. ⌜ r ≡ Target·Kind .operations .highest ⌝ }
+{
+    reading.read(R::Source::highest())
+}
+
+/// Reads the join of two values: it is the join of what they are read as.
+pub fn read_join<R: Reading>(reading: &R, x: R::Source, y: R::Source) -> R::Target
+    ensures value { λ r. ⌜ r ≡ R·Reading .image (now (reading .entry)) (Source·Kind .operations .join x y) ⌝ }
+    ensures same { λ r. ⌜ r ≡ Target·Kind .operations .join (R·Reading .image (now (reading .entry)) x) (R·Reading .image (now (reading .entry)) y) ⌝ }
+{
+    reading.keeps_all();
+    reading.read(x.join(y))
+}
+
+/// Reads the meet of two values: it is the meet of what they are read as.
+pub fn read_meet<R: Reading>(reading: &R, x: R::Source, y: R::Source) -> R::Target
+    ensures value { λ r. ⌜ r ≡ R·Reading .image (now (reading .entry)) (Source·Kind .operations .meet x y) ⌝ }
+    ensures same { λ r. ⌜ r ≡ Target·Kind .operations .meet (R·Reading .image (now (reading .entry)) x) (R·Reading .image (now (reading .entry)) y) ⌝ }
+{
+    reading.keeps_all();
+    reading.read(x.meet(y))
 }

@@ -47,6 +47,8 @@ pub impl<K: Kind> Kind for Reversed<K> as ReversedKind {
 
 /// The value as the kind writes it.
 pub impl<K: fmt::Display> fmt::Display for Reversed<K> as ReversedDisplay {
+    ghost shown = { λ x. K·Display .shown (x .inner) };
+
     fn fmt<W: fmt::Write>(&self, f: &mut fmt::Formatter<W>) -> fmt::Result {
         let inner = &self.inner;
         write!(f, "{inner}")

@@ -153,14 +153,14 @@ fn level_cuts() -> Result<(), Fail> {
     check_eq(cut.threshold(), Level::new(5))?;
     check_eq(cut.read(Level::new(5)), Presence::Present)?;
     check_eq(cut.read(Level::new(4)), Presence::Absent)?;
-    check_eq(cut.read_lowest(), Presence::Absent)?;
-    check_eq(cut.read_highest(), Presence::Present)?;
+    check_eq(read_lowest(&cut), Presence::Absent)?;
+    check_eq(read_highest(&cut), Presence::Present)?;
     check_eq(
-        cut.read_join(Level::new(4), Level::new(6)),
+        read_join(&cut, Level::new(4), Level::new(6)),
         Presence::Present,
     )?;
     check_eq(
-        cut.read_meet(Level::new(4), Level::new(6)),
+        read_meet(&cut, Level::new(4), Level::new(6)),
         Presence::Absent,
     )?;
     check(LevelCut::new(Level::new(1)).is_ok())?;

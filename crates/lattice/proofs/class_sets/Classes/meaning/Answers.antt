@@ -1,5 +1,5 @@
-use Rattle.lattice.proofs.KindMeanings.{classes-meant}
+use Rattle.lattice.proofs.KindMeanings.{classes-kind}
 use Rattle.lattice.proofs.class_sets.Classes.meaning.Needs as need
 
 pub returns : need.returns
-returns c = classes-meant
+returns c = classes-kind

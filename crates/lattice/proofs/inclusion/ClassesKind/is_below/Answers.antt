@@ -1,6 +1,0 @@
-use mathlib.Core.Path.{refl}
-use Rattle.lattice.proofs.KindLaws.{classes-decided}
-use Rattle.lattice.proofs.inclusion.ClassesKind.is_below.Needs as need
-
-pub returns : need.returns
-returns c = record { value = refl; exact = classes-decided (c .args .self) (c .args .other) }

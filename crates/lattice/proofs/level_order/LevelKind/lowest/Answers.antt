@@ -1,6 +1,0 @@
-use borrow.Author.Needs.{needs}
-use Rattle.lattice.proofs.SameValues.{same-level}
-use Rattle.lattice.proofs.level_order.LevelKind.lowest.Needs as need
-
-pub returns : need.returns
-returns c = same-level _ _ (search needs)
