@@ -1,7 +1,7 @@
 -- Values stored as records of bytes, one after the other. Assumes nothing.
-use mathlib.Core.List.{List, map}
+use mathlib.Core.List.{List, map, _++_}
 use denote.Ref.{RefT}
-use Prim.Native.Nat.{ℕ, _*_}
+use Prim.Native.Nat.{ℕ, _+_, _*_}
 use lib.ListN.{take, drop}
 use Rattle.std.specs.Iters.{counting}
 use Rattle.std.specs.declared.option.Option.{Option}
@@ -36,3 +36,7 @@ values f d n bytes = map (λ i. value-or d (value-at f bytes i)) (counting 0 n)
 abbrev pub bytes-in : Option (RefT (List ℕ)) → Option (List ℕ)
 bytes-in None = None
 bytes-in (Some buffer) = Some (buffer .now)
+
+-- bytes with record i of the width w put in the place of what stood there
+abbrev pub with-record : ℕ → List ℕ → ℕ → List ℕ → List ℕ
+with-record w bytes i new = take (i * w) bytes ++ (new ++ drop (i * w + w) bytes)
