@@ -1,3 +1,4 @@
 pub mod Extents
 pub mod Firsts
 pub mod Faults
+pub mod Places
