@@ -24,12 +24,15 @@ use Rattle.records.specs.Rules.{Iff, Has-value, Below-ends, Edge-right, Vertic
 use Rattle.records.proofs.Firsts.{all-accepted, refused-at, Settled, none-refused, first-refused, settled}
 
 -- a test that decides a fact came out one way or the other
-outcomes : {P : Type 0} (r : Bool) → Decides r P → ((r ≡ true) × P) ⊎ ((r ≡ false) × (P → ⊥))
+pub outcomes : {P : Type 0} (r : Bool) → Decides r P → ((r ≡ true) × P) ⊎ ((r ≡ false) × (P → ⊥))
 outcomes r decides =
     elim (cases-bool r) [ inl holds ↦ inl (holds, decides .0 holds) | inr fails ↦ inr (fails, not-from-decides r decides fails) ]
 
+pub buffers-decide : {K : Type 0} (g : Shape) (w : Weighting K) → Decides (fits g w) (Fits g w)
+buffers-decide g w = decides-and _ _ (decides-eqb _ _) (decides-eqb _ _)
+
 -- nothing is both accepted and refused
-not-both : (v : Verdict) (number place : ℕ) (p : Part) → v ≡ accepted tt → v ≡ refused number place p → ⊥
+pub not-both : (v : Verdict) (number place : ℕ) (p : Part) → v ≡ accepted tt → v ≡ refused number place p → ⊥
 not-both v number place p accepts refuses = let z : _≡_ {A = ℕ} 0 1 = cc in omega arith
 
 not-some : {K : Type 0} (x : K) → None ≡ Some x → ⊥
@@ -149,9 +152,6 @@ module _ {K : Type 0} (below : K → K → Type 0) (leq : K → K → Bool) (dec
     lengths-decide edges = decides-and _ _ (decides-eqb _ _) (length-decides edges)
 
     module _ (w : Weighting K) where
-      buffers-decide : Decides (fits g w) (Fits g w)
-      buffers-decide = decides-and _ _ (decides-eqb _ _) (decides-eqb _ _)
-
       -- the answer to the edge records, where all before is right
       edges-judged : (edges : Option (List ℕ)) → Fits g w → Lengths-right f g vertices edges → Vertices-right f g vertices
         → Judged below f g vertices edges w (edges-verdict leq f g vertices edges)
@@ -205,7 +205,7 @@ module _ {K : Type 0} (below : K → K → Type 0) (leq : K → K → Bool) (dec
             ]
 
         past-buffers : Fits g w → load-verdict leq f g vertices edges w ≡ records-verdict leq f g vertices edges
-        past-buffers fit = cond-true _ _ _ (buffers-decide .1 fit)
+        past-buffers fit = cond-true _ _ _ (buffers-decide g w .1 fit)
 
         past-lengths : Lengths-right f g vertices edges → records-verdict leq f g vertices edges ≡ after-vertices (first-refusal vertex (g .order))
         past-lengths long = cond-true _ _ _ (lengths-decide edges .1 long)
@@ -215,7 +215,7 @@ module _ {K : Type 0} (below : K → K → Type 0) (leq : K → K → Bool) (dec
 
         verdict-judged : Judged below f g vertices edges w (load-verdict leq f g vertices edges w)
         verdict-judged =
-            elim (outcomes (fits g w) buffers-decide) [
+            elim (outcomes (fits g w) (buffers-decide g w)) [
               | inr t ↦ weights-length (t .1) (cond-false _ _ _ (t .0))
               | inl t ↦ elim (outcomes _ (lengths-decide edges)) [
                 | inr u ↦ bytes-length (t .1) (u .1) (past-buffers (t .1) ∙ cond-false _ _ _ (u .0))
@@ -232,7 +232,7 @@ module _ {K : Type 0} (below : K → K → Type 0) (leq : K → K → Bool) (dec
         only-verdict : (a : Verdict) → Judged below f g vertices edges w a → load-verdict leq f g vertices edges w ≡ a
         only-verdict a (all-right l said) = loads l ∙ sym said
         only-verdict a (weights-length fails said) =
-            elim (outcomes (fits g w) buffers-decide) [ inl t ↦ absurd (fails (t .1)) | inr t ↦ cond-false _ _ _ (t .0) ∙ sym said ]
+            elim (outcomes (fits g w) (buffers-decide g w)) [ inl t ↦ absurd (fails (t .1)) | inr t ↦ cond-false _ _ _ (t .0) ∙ sym said ]
         only-verdict a (bytes-length fit fails said) =
             past-buffers fit
             ∙ elim (outcomes _ (lengths-decide edges)) [ inl t ↦ absurd (fails (t .1)) | inr t ↦ cond-false _ _ _ (t .0) ∙ sym said ]

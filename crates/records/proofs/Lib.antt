@@ -2,3 +2,4 @@ pub mod Extents
 pub mod Firsts
 pub mod Faults
 pub mod Places
+pub mod Returns

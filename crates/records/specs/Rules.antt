@@ -1,5 +1,6 @@
--- Which records are the weights of a graph, and by which fault others are refused, said by the order of the kind and with no
--- tests. Assumes nothing.
+-- Which records are the weights of a graph, by which fault others are refused, and that what is stored loads as the same weights:
+-- said by the order of the kind and with no tests. Assumes nothing.
+use mathlib.Core.Bool.{Bool}
 use mathlib.Core.List.{List}
 use mathlib.Core.Path.{_≡_}
 use Prim.Native.Nat.{ℕ, _+_, _*_, _<_}
@@ -8,11 +9,14 @@ use Rattle.std.specs.declared.option.Option.{Option}
 use Rattle.std.specs.declared.option.Option.the-variants.{Some, None}
 use Rattle.refusal.specs.Reports.{Answer, accepted, refused}
 use Rattle.refusal.specs.declared.Part.the-variants as part
+use Rattle.lattice.specs.Lattices.{Operations}
 use Rattle.graph.specs.Shapes.{Shape}
 use Rattle.graph.specs.declared.edges.Edge.{Edge}
+use Rattle.filters.specs.Algebra.{Stands, Edges-below-ends}
 use Rattle.filters.specs.Weightings.{Weighting, Fits}
 use Rattle.records.specs.Formats.{Format, value-at}
 use Rattle.records.specs.Verdicts.{Verdict, edge-at}
+use Rattle.records.specs.Calls.{Bytes, loaded, load-call}
 
 -- each fact gives the other
 abbrev pub Iff : Type 0 → Type 0 → Type 0
@@ -86,3 +90,13 @@ pub data Judged {K : Type 0} (below : K → K → Type 0) (f : Format K) (g : Sh
   edge-ends : (bytes : List ℕ) (j : ℕ) (y : K) → Fits g w → Lengths-right f g vertices edges → Vertices-right f g vertices → edges ≡ Some bytes
     → Edge-fault below f g vertices bytes j ((value-at f bytes j ≡ Some y) × (Below-ends below f vertices (edge-at (g .edges) j) y → ⊥))
     → a ≡ refused 10 j part.Sheet → Judged below f g vertices edges w a
+
+-- each weight is what its record stands for
+abbrev pub Stand-for : {K : Type 0} → Format K → List ℕ → List K → Type 0
+Stand-for {K = K} f bytes weights = (i : ℕ) (x : K) → Stands weights i x → value-at f bytes i ≡ Some x
+
+-- What is stored can be loaded: where the edge weights are below their ends', a load of these bytes into any buffers of the
+-- right lengths is accepted, and gives the same weights.
+abbrev pub Loads-back : {K : Type 0} → (K → K → Type 0) → Operations K → (K → K → Bool) → Format K → Shape → Bytes → Weighting K → Type 0
+Loads-back {K = K} below k leq f g bytes w =
+    Edges-below-ends below g w → (old : Weighting K) → Fits g old → load-call k leq f g (bytes .vertices) (Some (bytes .edges)) old ≡ loaded (accepted tt) w

@@ -4,5 +4,7 @@ mod decoding;
 mod encoding;
 mod judging;
 mod loading;
+mod storing;
 
 pub use loading::load;
+pub use storing::store;
