@@ -1,0 +1,5 @@
+pub mod Extents
+pub mod Firsts
+pub mod Faults
+pub mod Places
+pub mod Returns

@@ -1,0 +1,4 @@
+pub mod Formats
+pub mod Verdicts
+pub mod Calls
+pub mod Rules
