@@ -1,6 +1,7 @@
 //! Sheets: the weights of a graph, worked on by calls in two states.
 
 mod holding;
+mod opening;
 mod places;
 mod reading;
 mod refused;
