@@ -1,13 +1,11 @@
 -- What is answered is the right answer. Assumes nothing.
-use mathlib.Core.Bool.{Bool, true, false, cond}
+use mathlib.Core.Bool.{true, false}
 use mathlib.Core.List.{List}
 use mathlib.Core.Logic.{_⊎_, inl, inr}
 use mathlib.Core.Path.{_≡_, refl, sym, ap, _∙_, subst}
-use Prim.Native.Nat.{ℕ, suc, _+_, _<_, _≤_, _%_}
-use native.Mathlib.Numerals.{add-one}
+use Prim.Native.Nat.{ℕ, _+_, _<_, _%_}
 use native.Mathlib.Omega.{arith}
-use lib.Dec.{leb, ltb, eqb}
-use lib.ListN.{length, getD}
+use lib.ListN.{length}
 use Rattle.std.specs.declared.option.Option.the-variants.{None}
 use Rattle.std.proofs.shelf.Ways.{leb-tells, eqb-tells, tells}
 use Rattle.std.specs.Vec.{made}
@@ -21,7 +19,7 @@ use Rattle.graph.specs.Graphs.{All-within, Rising, Sound}
 use Rattle.graph.specs.Rules.{Iff, Rule, ends-rise, end-in-range, above-last, number, Keeps, Faulty, Counts-fit, Too-large, Judged, Whole, File-judged}
 use Rattle.graph.specs.Verdicts.{Verdict, large, records-verdict, verdict, file-verdict}
 use Rattle.graph.specs.declared.edges.Edge.{Edge}
-use Rattle.graph.proofs.Faults.{Answered, rightly, wrongly, answered}
+use Rattle.graph.proofs.Faults.{rightly, wrongly, answered}
 
 -- every record keeps every rule
 abbrev Clear : ℕ → List Edge → Type 0

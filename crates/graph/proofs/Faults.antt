@@ -1,22 +1,21 @@
 -- Judging record by record stops at the first record that breaks a rule, by the first rule that it breaks. Assumes nothing.
 use mathlib.Core.Bool.{Bool, true, false}
-use mathlib.Core.List.{List, [], _∷_}
+use mathlib.Core.List.{List}
 use mathlib.Core.Logic.{_⊎_, inl, inr}
 use mathlib.Core.Path.{_≡_, refl, sym, ap, _∙_}
-use Prim.Native.Nat.{ℕ, zero, suc, _+_, _<_, _≤_}
+use Prim.Native.Nat.{ℕ, zero, suc, _<_, _≤_}
 use native.Mathlib.Numerals.{add-one}
 use native.Mathlib.Omega.{arith}
 use borrow.Author.Count.{below-more}
-use lib.Dec.{leb}
 use lib.ListN.{length, drop, getD}
 use Rattle.std.specs.declared.option.Option.{Option}
 use Rattle.std.specs.declared.option.Option.the-variants.{Some, None}
 use Rattle.std.proofs.shelf.Lists.{getD-default, drop-all}
-use Rattle.std.proofs.shelf.Ways.{leb-tells, tells}
+use Rattle.std.proofs.shelf.Ways.{leb-tells}
 use Rattle.refusal.specs.Reports.{accepted, refused}
 use Rattle.refusal.specs.declared.Part.the-variants as part
 use Rattle.graph.specs.Rules.{Rule, ends-rise, end-in-range, above-last, number, Keeps, Faulty}
-use Rattle.graph.specs.Verdicts.{Verdict, above, then, record-verdict, records-verdict}
+use Rattle.graph.specs.Verdicts.{Verdict, above, record-verdict, records-verdict}
 use Rattle.graph.specs.declared.edges.Edge.{Edge}
 use Rattle.graph.proofs.Loops.{records-more}
 

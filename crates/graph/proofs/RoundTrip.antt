@@ -1,12 +1,12 @@
 -- The records of a file are the edges that it was written from. Assumes nothing.
 use mathlib.Core.List.{List, [], _∷_, _++_}
-use mathlib.Core.Path.{_≡_, refl, sym, ap, _∙_}
+use mathlib.Core.Path.{_≡_, refl, ap, _∙_}
 use Prim.Native.Nat.{ℕ, zero, suc, _+_, _*_, _/_, _%_, _<_}
 use native.Mathlib.Omega.{arith}
 use lib.ListN.{length, getD}
 use Rattle.std.proofs.shelf.Counted.{length-map-counting, getD-map-counting}
 use Rattle.std.proofs.shelf.Lists.{getD-append-add, same-lists}
-use Rattle.graph.specs.Files.{number-at, record-at, file-records, number-bytes, record-bytes, file-bytes}
+use Rattle.graph.specs.Files.{number-at, record-at, file-records, record-bytes, file-bytes}
 use Rattle.graph.specs.declared.edges.Edge.{Edge}
 
 -- the digits of a number make it up

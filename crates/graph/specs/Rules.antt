@@ -5,7 +5,7 @@ use mathlib.Core.Logic.{_⊎_}
 use mathlib.Core.Path.{_≡_}
 use Prim.Native.Nat.{ℕ, _+_, _%_, _<_, _≤_}
 use lib.ListN.{length, getD}
-use Rattle.refusal.specs.Reports.{Answer, accepted, refused}
+use Rattle.refusal.specs.Reports.{accepted, refused}
 use Rattle.refusal.specs.declared.Part.the-variants as part
 use Rattle.graph.specs.Files.{file-records}
 use Rattle.graph.specs.Graphs.{Sound, before}
