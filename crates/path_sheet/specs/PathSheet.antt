@@ -8,8 +8,7 @@ use Rattle.lattice.specs.ClassSets.{classes-of, classes-number, classes-operati
 use Rattle.lattice.specs.Cuts.{cut-at}
 use Rattle.lattice.specs.Lattices.{Operations}
 use Rattle.lattice.specs.Levels.{level, level-number, level-leq, level-operations}
-use Rattle.lattice.specs.Presences.{presence-operations}
-use Rattle.lattice.specs.Records.{presence-number}
+use Rattle.lattice.specs.Presences.{presence-number, presence-operations}
 use Rattle.lattice.specs.declared.levels.Level.{Level}
 use Rattle.graph.specs.Shapes.{Shape, shape}
 use Rattle.graph.specs.declared.edges.Edge.{Edge}

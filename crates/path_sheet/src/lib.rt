@@ -2,6 +2,7 @@
 
 ghost use mathlib.Core.List.{[], _∷_};
 ghost use mathlib.Core.Path.{_≡_};
+ghost use Rattle.std.specs.declared.option.Option.the-variants.{None};
 ghost use Rattle.path_sheet.specs.PathSheet.{path-edges, Results};
 use graph::Edge;
 
@@ -33,7 +34,14 @@ pub fn edges() -> [Edge; 4]
     ]
 }
 
-/// The records of the vertex weights, Levels 5 2 7 7 1. The edge weights are absent.
+/// The records of the edge weights: they are absent.
+pub fn edge_records() -> Option<&'static [u8]>
+    ensures { λ r. ⌜ r ≡ None ⌝ }
+{
+    None
+}
+
+/// The records of the vertex weights, Levels 5 2 7 7 1.
 pub fn vertex_records() -> [u8; 10]
     ensures { λ r. ⌜ r ≡ 5 ∷ 0 ∷ 2 ∷ 0 ∷ 7 ∷ 0 ∷ 7 ∷ 0 ∷ 1 ∷ 0 ∷ [] ⌝ }
 {

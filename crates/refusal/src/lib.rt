@@ -162,7 +162,8 @@ impl Refusal {
     /// What is wrong, in words.
     fn explanation(self) -> &'static str {
         match self {
-            Refusal::PartialEdgeRecord => "the graph file does not end with a whole record of 8 bytes",
+            Refusal::PartialEdgeRecord =>
+                "the graph file does not end with a whole record of 8 bytes",
             Refusal::GraphTooLarge => "there are more than 1,000,000 vertices or 4,000,000 edges",
             Refusal::EdgeTableLength => "the edge table has not one row for each record",
             Refusal::EndsNotRising(_) => "the first end of the edge is not under the second",
@@ -173,7 +174,8 @@ impl Refusal {
             }
             Refusal::ByteBufferLength => "a byte buffer has not one record for each vertex or edge",
             Refusal::NotAValue(_) => "the record is no weight of this kind",
-            Refusal::EdgeNotBelowEnds(_) => "the edge's weight is not below the weights of both its ends",
+            Refusal::EdgeNotBelowEnds(_) =>
+                "the edge's weight is not below the weights of both its ends",
             Refusal::StepSize | Refusal::WordSize(_) => "the size of a filter is not 1 to 200",
             Refusal::TextTooLong => "the recipe is longer than 4,096 bytes",
             Refusal::WordShape(_) => "the word is no filter with its size and none of H, J, M, F",
