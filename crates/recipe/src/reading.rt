@@ -17,8 +17,12 @@ use crate::recipes::Recipe;
 use crate::scanning::word_end;
 use crate::tokens::read_word;
 use crate::turns::Turn;
+use crate::words::MAX_WORDS;
 use crate::words::Word;
 use refusal::Refusal;
+
+/// The most bytes that a recipe text has.
+pub const MAX_TEXT_LEN: usize = 4096;
 
 /// The draft of a text of this length as a recipe, unless something is still held.
 fn finish(draft: Draft, len: usize) -> Result<Recipe, Refusal>
@@ -44,7 +48,7 @@ impl Recipe {
         ensures grammar { λ r. ⌜ ((ws : List Word) → Same (read-answer r ≡ accepted ws) (Text (now (text .entry)) ws)) ⌝ }
         ensures refusals { λ r. ⌜ ((number place : ℕ) (p : Part) → Same (read-answer r ≡ refused number place p) (Refused (now (text .entry)) number place p)) ⌝ }
     {
-        if text.len() > 4096 {
+        if text.len() > MAX_TEXT_LEN {
             return Err(Refusal::TextTooLong);
         }
         let mut draft = Draft::new();
@@ -66,7 +70,7 @@ impl Recipe {
     pub fn empty() -> Recipe
         ensures { λ r. ⌜ recipe-words r ≡ [] ⌝ }
     {
-        let words = [Word::Forget; 96];
+        let words = [Word::Forget; MAX_WORDS];
         Recipe { words, len: 0 }
     }
 

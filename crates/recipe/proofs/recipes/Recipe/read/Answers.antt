@@ -52,8 +52,8 @@ every text r same = record {
   refusals = λ n place p. (λ h. refused-why text n place p (sym same ∙ h), λ f. same ∙ refused-judge text n place p f);
 }
 
-pub returns-then-text-gt4096 : need.returns-then-text-gt4096
-returns-then-text-gt4096 c = every (c .args .text .now) (Err refusal.TextTooLong) (judged-long (c .args .text .now) (c .if-text-gt4096 .taken))
+pub returns-then-text-gt-MAX-TEXT-LEN : need.returns-then-text-gt-MAX-TEXT-LEN
+returns-then-text-gt-MAX-TEXT-LEN c = every (c .args .text .now) (Err refusal.TextTooLong) (judged-long (c .args .text .now) (c .if-text-gt-MAX-TEXT-LEN .taken))
 
 pub loop-at-again-then-text-at-eq32 : need.loop-at-again-then-text-at-eq32
 loop-at-again-then-text-at-eq32 c = (
