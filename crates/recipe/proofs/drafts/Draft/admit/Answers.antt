@@ -1,3 +1,4 @@
+-- What is left to show of drafts::Draft::admit.
 use mathlib.Core.Path.{ap, _∙_}
 use native.Mathlib.Omega.{arith}
 use Prim.Native.Nat.{_<_}
