@@ -24,7 +24,7 @@ use Rattle.recipe.specs.Shapes.{numeral, number-run, Parsed, step, hold, join,
 use Rattle.recipe.proofs.Departing.{shape-departs}
 use Rattle.recipe.proofs.Meaning.{means-read}
 use Rattle.recipe.proofs.Running.{Inside, run-word, run-next, refused-stays, judged}
-use Rattle.recipe.proofs.Saying.{ends-opens, spells-means}
+use Rattle.recipe.proofs.Accepting.{ends-opens, spells-means}
 use Rattle.recipe.proofs.Spelling.{word-spells, spells-word, shape-step, letter-shape, number-run-whole, number-some}
 
 -- the runs before a word and from it on
@@ -63,13 +63,13 @@ read-append : (q : Answer Progress) (xs ys : List Run) → read-runs q (xs ++ ys
 read-append q [] ys = refl
 read-append q (x ∷ xs) ys = read-append (read-run q x) xs ys
 
-solid-inside : (bs : List ℕ) → NoSpace bs → Inside bs
-solid-inside [] h = tt
-solid-inside (b ∷ bs) h = (not-from-false _ (ne-eqb b 32 (h .0)), solid-inside bs (h .1))
+no-space-inside : (bs : List ℕ) → NoSpace bs → Inside bs
+no-space-inside [] h = tt
+no-space-inside (b ∷ bs) h = (not-from-false _ (ne-eqb b 32 (h .0)), no-space-inside bs (h .1))
 
-runs-solid : (bytes rest : List ℕ) (at : ℕ) → 0 < length bytes → NoSpace bytes → Ends rest → runs at (bytes ++ rest) ≡ record { place = at; bytes = bytes } ∷ runs (at + length bytes) rest
-runs-solid [] rest at some solid ends = absurd (omega arith)
-runs-solid (b ∷ bs) rest at some solid ends = run-word at b bs rest (solid-inside (b ∷ bs) solid) (ends-opens rest ends)
+runs-bytes : (bytes rest : List ℕ) (at : ℕ) → 0 < length bytes → NoSpace bytes → Ends rest → runs at (bytes ++ rest) ≡ record { place = at; bytes = bytes } ∷ runs (at + length bytes) rest
+runs-bytes [] rest at some solid ends = absurd (omega arith)
+runs-bytes (b ∷ bs) rest at some solid ends = run-word at b bs rest (no-space-inside (b ∷ bs) solid) (ends-opens rest ends)
 
 -- a word departs at one place only
 once-below : (bytes : List ℕ) (j k : ℕ) → Departs bytes j → Departs bytes k → j < k → ⊥
@@ -132,7 +132,7 @@ first-read text n place q h =
     ∙ ap (read-runs (accepted start)) (runs-separated (h .front) (h .bytes ++ h .rest) 0 (h .separated))
     ∙ read-append (accepted start) (runs 0 (h .front)) (runs at (h .bytes ++ h .rest))
     ∙ ap (λ q. read-runs q (runs at (h .bytes ++ h .rest))) (means-read (runs 0 (h .front)) (h .words) start (h .then) (spells-means (h .words) (h .front) 0 (h .spells)) (h .leads) (omega (arith, h .few)))
-    ∙ ap (read-runs (accepted p)) (runs-solid (h .bytes) (h .rest) at (h .some) (h .solid) (h .ends))
+    ∙ ap (read-runs (accepted p)) (runs-bytes (h .bytes) (h .rest) at (h .nonempty) (h .no-space) (h .ends))
     ∙ ap (λ q. read-runs q far) (fault-read p at (h .bytes) n place q (h .fault))
     ∙ refused-stays n place q far
 

@@ -1,3 +1,5 @@
+-- The lemmas of the crate; other crates see those on legal words.
+mod Accepting
 mod Admitting
 mod Answering
 mod Departing
@@ -7,8 +9,7 @@ mod Meaning
 mod Numbering
 mod Placing
 mod Refusing
-mod Returning
+mod RoundTrip
 mod Running
-mod Saying
 mod Shaping
 mod Spelling

@@ -28,12 +28,12 @@ use Rattle.recipe.proofs.Answering.{same-refusal, not-refused}
 use Rattle.recipe.proofs.Departing.{shape-departs}
 use Rattle.recipe.proofs.Meaning.{read-means}
 use Rattle.recipe.proofs.Running.{Inside, front-ends, front-inside, front-within, run-next, refused-stays}
-use Rattle.recipe.proofs.Saying.{after-space, some-run, opens-ends, means-spells}
+use Rattle.recipe.proofs.Accepting.{after-space, some-run, opens-ends, means-spells}
 use Rattle.recipe.proofs.Spelling.{word-spells, shape-step}
 
-inside-solid : (bs : List ℕ) → Inside bs → NoSpace bs
-inside-solid [] h = tt
-inside-solid (b ∷ bs) h = ((λ e. both-ways _ (not-true _ (h .0)) (eq-eqb b 32 e)), inside-solid bs (h .1))
+inside-no-space : (bs : List ℕ) → Inside bs → NoSpace bs
+inside-no-space [] h = tt
+inside-no-space (b ∷ bs) h = ((λ e. both-ways _ (not-true _ (h .0)) (eq-eqb b 32 e)), inside-no-space bs (h .1))
 
 -- a word that is refused by itself
 size-fault : (ws : List Word) (t : Turn) (at : ℕ) (bytes : List ℕ) (s : Parsed) (n place : ℕ) (q : Part) → shape-of at bytes ≡ accepted s → sized s ≡ refused n place q → Fault ws t at bytes n place q
@@ -87,8 +87,8 @@ skip-space b text at p n place q is h = record {
   rest = h .rest;
   is = ap (λ l. b ∷ l) (h .is);
   separated = separated-space b (h .front) is (h .separated);
-  some = h .some;
-  solid = h .solid;
+  nonempty = h .nonempty;
+  no-space = h .no-space;
   ends = h .ends;
   words = h .words;
   few = h .few;
@@ -119,8 +119,8 @@ module _ (b : ℕ) (bs : List ℕ) (at : ℕ) (p : Progress) (n place : ℕ) (q 
     rest = left;
     is = sym (take-append-drop (word-run text) text);
     separated = tt;
-    some = omega (arith, long, some-run b bs starts);
-    solid = inside-solid word (front-inside text);
+    nonempty = omega (arith, long, some-run b bs starts);
+    no-space = inside-no-space word (front-inside text);
     ends = opens-ends left (front-ends text);
     words = [];
     few = omega (arith, length-append {A = Word} (p .words) []);
@@ -132,15 +132,15 @@ module _ (b : ℕ) (bs : List ℕ) (at : ℕ) (p : Progress) (n place : ℕ) (q 
 
   skip-word : (w : Word) (t : Turn) → Spells w word → turned (p .turn) w ≡ Some t → FirstFault (at + word-run text) (p .words ++ w ∷ []) t left n place q → FirstFault at (p .words) (p .turn) text n place q
   skip-word w t spells turns h =
-      let gap = front-space (h .front) (h .bytes) (h .rest) left (h .is) (front-ends text) (h .some) (h .solid) in
+      let gap = front-space (h .front) (h .bytes) (h .rest) left (h .is) (front-ends text) (h .nonempty) (h .no-space) in
       record {
         front = word ++ h .front;
         bytes = h .bytes;
         rest = h .rest;
         is = sym (take-append-drop (word-run text) text) ∙ ap (λ l. word ++ l) (h .is) ∙ sym (append-assoc word (h .front) (h .bytes ++ h .rest));
         separated = separated-append word (h .front) (gap .0) (h .separated);
-        some = h .some;
-        solid = h .solid;
+        nonempty = h .nonempty;
+        no-space = h .no-space;
         ends = h .ends;
         words = w ∷ h .words;
         few = subst (λ l. length l ≤ 96) (append-assoc (p .words) (w ∷ []) (h .words)) (h .few);

@@ -81,5 +81,5 @@ pub record Text (text : List ℕ) (ws : List Word) : Type 0 where
   pub spells : SpellsAll text ws
 
 -- one holds exactly where the other does
-abbrev pub Same : Type 0 → Type 0 → Type 0
-Same P Q = (P → Q) × (Q → P)
+abbrev pub Iff : Type 0 → Type 0 → Type 0
+Iff P Q = (P → Q) × (Q → P)

@@ -49,8 +49,8 @@ pub record FirstFault (at : ℕ) (earlier : List Word) (turn : Turn) (text : Lis
   pub rest : List ℕ
   pub is : text ≡ front ++ (bytes ++ rest)
   pub separated : Separated front
-  pub some : 0 < length bytes
-  pub solid : NoSpace bytes
+  pub nonempty : 0 < length bytes
+  pub no-space : NoSpace bytes
   pub ends : Ends rest
   pub words : List Word
   pub few : length (earlier ++ words) ≤ 96

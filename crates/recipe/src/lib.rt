@@ -13,6 +13,7 @@ mod turns;
 mod words;
 mod writing;
 
+pub use reading::MAX_TEXT_LEN;
 pub use recipes::Recipe;
 pub use showing::RecipeDebug;
 pub use showing::RecipeDisplay;
@@ -22,4 +23,6 @@ pub use turns::Turn;
 pub use turns::TurnDebug;
 pub use turns::TurnEq;
 pub use turns::TurnPartialEq;
+pub use words::MAX_SIZE;
+pub use words::MAX_WORDS;
 pub use words::Word;

@@ -8,7 +8,7 @@ ghost use Rattle.refusal.specs.declared.Part.{Part};
 ghost use Rattle.refusal.specs.Reports.{answer, accepted, refused};
 ghost use Rattle.recipe.specs.declared.turns.Turn.the-variants.{Free};
 ghost use Rattle.recipe.specs.Legal.{Legal};
-ghost use Rattle.recipe.specs.Grammar.{Same, Text};
+ghost use Rattle.recipe.specs.Grammar.{Iff, Text};
 ghost use Rattle.recipe.specs.Judging.{judge, ended};
 ghost use Rattle.recipe.specs.Refused.{Refused};
 ghost use Rattle.recipe.specs.Contents.{recipe-words, read-answer, without-words, words-after};
@@ -17,8 +17,12 @@ use crate::recipes::Recipe;
 use crate::scanning::word_end;
 use crate::tokens::read_word;
 use crate::turns::Turn;
+use crate::words::MAX_WORDS;
 use crate::words::Word;
 use refusal::Refusal;
+
+/// The most bytes that a recipe text has.
+pub const MAX_TEXT_LEN: usize = 4096;
 
 /// The draft of a text of this length as a recipe, unless something is still held.
 fn finish(draft: Draft, len: usize) -> Result<Recipe, Refusal>
@@ -41,10 +45,10 @@ impl Recipe {
     /// wrong size (11), a 97th word (14) or a word out of turn (15); then something still held at the end (16).
     pub fn read(text: &[u8]) -> Result<Recipe, Refusal>
         ensures is { λ r. ⌜ read-answer r ≡ judge (now (text .entry)) ⌝ }
-        ensures grammar { λ r. ⌜ ((ws : List Word) → Same (read-answer r ≡ accepted ws) (Text (now (text .entry)) ws)) ⌝ }
-        ensures refusals { λ r. ⌜ ((number place : ℕ) (p : Part) → Same (read-answer r ≡ refused number place p) (Refused (now (text .entry)) number place p)) ⌝ }
+        ensures grammar { λ r. ⌜ ((ws : List Word) → Iff (read-answer r ≡ accepted ws) (Text (now (text .entry)) ws)) ⌝ }
+        ensures refusals { λ r. ⌜ ((number place : ℕ) (p : Part) → Iff (read-answer r ≡ refused number place p) (Refused (now (text .entry)) number place p)) ⌝ }
     {
-        if text.len() > 4096 {
+        if text.len() > MAX_TEXT_LEN {
             return Err(Refusal::TextTooLong);
         }
         let mut draft = Draft::new();
@@ -66,7 +70,7 @@ impl Recipe {
     pub fn empty() -> Recipe
         ensures { λ r. ⌜ recipe-words r ≡ [] ⌝ }
     {
-        let words = [Word::Forget; 96];
+        let words = [Word::Forget; MAX_WORDS];
         Recipe { words, len: 0 }
     }
 

@@ -6,6 +6,7 @@ ghost use Prim.Native.Nat.{_≤_};
 ghost use lib.ListN.{length, take};
 ghost use Rattle.recipe.specs.declared.turns.Turn.the-variants.{Free};
 ghost use Rattle.recipe.specs.Legal.{fits, sizes-fit};
+use crate::words::MAX_WORDS;
 use crate::words::Word;
 
 /// A recipe: at most 96 words, each size 1 to 200, at most one thing held at a time and nothing at the end.
@@ -14,7 +15,7 @@ use crate::words::Word;
 /// before, and two answers to one text are to be the same.
 #[derive(Drop)]
 pub struct Recipe {
-    pub(crate) words: [Word; 96],
+    pub(crate) words: [Word; MAX_WORDS],
     pub(crate) len: usize,
     ghost whole: { length words ≡ 96 },
     ghost few: { len ≤ 96 },

@@ -6,6 +6,7 @@ ghost use lib.ListN.{length, drop};
 ghost use Rattle.recipe.specs.Judging.{word-run, start, progress, step-answer, admitted};
 use crate::drafts::Draft;
 use crate::turns::Turn;
+use crate::words::MAX_WORDS;
 use crate::words::Word;
 use refusal::Refusal;
 
@@ -15,7 +16,7 @@ impl Draft {
         ensures { λ r. ⌜ progress r ≡ start ⌝ }
     {
         Draft {
-            words: [Word::Forget; 96],
+            words: [Word::Forget; MAX_WORDS],
             len: 0,
             turn: Turn::Free,
         }
@@ -25,7 +26,7 @@ impl Draft {
     pub(crate) fn admit(&mut self, word: Word, at: usize) -> Result<(), Refusal>
         ensures { λ r. ⌜ step-answer r (progress (now (self .exit))) ≡ admitted at word (progress (now (self .entry))) ⌝ }
     {
-        if self.len >= 96 {
+        if self.len >= MAX_WORDS {
             return Err(Refusal::TooManyWords(at));
         }
         let Some(turn) = self.turn.after(word) else {

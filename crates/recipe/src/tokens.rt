@@ -5,6 +5,7 @@ ghost use Prim.Native.Nat.{_+_, _≤_, min};
 ghost use lib.ListN.{length};
 ghost use Rattle.refusal.specs.Reports.{answer};
 ghost use Rattle.recipe.specs.Shapes.{is-digit, digit-run, number-run, numeral, parsed, token-answer, sized, step-shape, alone-shape, shape-of, word-of};
+use crate::words::MAX_SIZE;
 use crate::words::Word;
 use filters::Family;
 use filters::Filter;
@@ -53,13 +54,13 @@ fn number_at_front(bytes: &[u8]) -> usize
     }
 }
 
-/// The number that the digits write, or 201 where it is larger.
-fn size_up_to_201(digits: &[u8]) -> u32
+/// The number that the digits write, or 201 where it is larger: so it never overflows.
+fn capped_size(digits: &[u8]) -> u32
     ensures { λ r. ⌜ r ≡ min 201 (numeral 0 (now (digits .entry))) ⌝ }
 {
     let mut size: u32 = 0;
     for d in digits {
-        size = (size * 10 + u32::from(d.saturating_sub(b'0'))).min(201);
+        size = (size * 10 + u32::from(d.saturating_sub(b'0'))).min(MAX_SIZE + 1);
     }
     size
 }
@@ -116,8 +117,8 @@ impl<'a> Token<'a> {
     {
         match self {
             Token::Step(family, digits, at) => {
-                let size = size_up_to_201(digits);
-                if size == 0 || size > 200 {
+                let size = capped_size(digits);
+                if size == 0 || size > MAX_SIZE {
                     return Err(Refusal::WordSize(at));
                 }
                 Ok(Word::Step(Filter { family, size }))

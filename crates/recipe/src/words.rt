@@ -2,6 +2,12 @@
 
 use filters::Filter;
 
+/// The most words that a recipe has.
+pub const MAX_WORDS: usize = 96;
+
+/// The largest size of a filter.
+pub const MAX_SIZE: u32 = 200;
+
 /// A word: what one step of a recipe does.
 #[derive(Clone, Copy)]
 pub enum Word {

@@ -1,3 +1,4 @@
+-- What is left to show of scanning::word_end.
 use native.Mathlib.Omega.{arith}
 use borrow.Author.Tests.{eq-eqb, ne-eqb}
 use Rattle.std.proofs.shelf.Lists.{at-drop-all}

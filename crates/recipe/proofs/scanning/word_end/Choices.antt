@@ -1,3 +1,4 @@
+-- The choices for scanning::word_end: its loop's invariant and measure.
 use mathlib.Core.Path.{_≡_}
 use Prim.Native.Nat.{_+_, _-_, _≤_}
 use lib.ListN.{length, drop}

@@ -1,3 +1,4 @@
+-- What is left to show of tokens::digits_at_front.
 use mathlib.Core.Path.{sym}
 use native.Mathlib.Omega.{arith}
 use Rattle.recipe.proofs.Shaping.{front-more, front-stop}

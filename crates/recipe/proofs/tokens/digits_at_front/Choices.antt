@@ -1,3 +1,4 @@
+-- The choices for tokens::digits_at_front: its loop's invariant.
 use mathlib.Core.Path.{_≡_}
 use Prim.Native.Nat.{_+_}
 use lib.ListN.{drop}

@@ -1,3 +1,4 @@
+-- What is left to show of writing::number_len.
 use native.Mathlib.Omega.{arith}
 use Rattle.std.proofs.shelf.Decimals.{length-decimal-le}
 use Rattle.recipe.proofs.Numbering.{length-one, length-step}

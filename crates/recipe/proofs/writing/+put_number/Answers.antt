@@ -1,3 +1,4 @@
+-- What is left to show of writing::put_number.
 use mathlib.Core.Path.{sym, ap, _∙_}
 use mathlib.Core.List.{[], _∷_, _++_}
 use native.Mathlib.Omega.{arith}

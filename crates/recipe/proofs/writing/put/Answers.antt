@@ -1,3 +1,4 @@
+-- What is left to show of writing::put.
 use mathlib.Core.Path.{refl}
 use Rattle.recipe.proofs.Placing.{placed-byte}
 use Rattle.recipe.proofs.writing.put.Needs as need

@@ -1,3 +1,4 @@
+-- What is left to show of writing::put_spaced.
 use mathlib.Core.List.{[], _∷_}
 use native.Mathlib.Omega.{arith}
 use Rattle.recipe.specs.Written.{spelling}

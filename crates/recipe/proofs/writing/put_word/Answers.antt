@@ -1,3 +1,4 @@
+-- What is left to show of writing::put_word.
 use mathlib.Core.Path.{sym, ap, _∙_}
 use mathlib.Core.List.{[], _∷_}
 use native.Mathlib.Omega.{arith}

@@ -1,3 +1,4 @@
+-- What is left to show of writing::spaced_len.
 use mathlib.Core.Path.{ap}
 use native.Mathlib.Omega.{arith}
 use lib.ListN.{length}

@@ -1,3 +1,4 @@
+-- The choices for writing::spaced_len: its loop's invariant.
 use mathlib.Core.Path.{_≡_}
 use Prim.Native.Nat.{_*_, _≤_}
 use lib.ListN.{length, take}

@@ -1,3 +1,4 @@
+-- What is left to show of drafts::Draft::admit.
 use mathlib.Core.Path.{ap, _∙_}
 use native.Mathlib.Omega.{arith}
 use Prim.Native.Nat.{_<_}
@@ -7,8 +8,8 @@ use Rattle.recipe.specs.Judging.{progress}
 use Rattle.recipe.proofs.Admitting.{full, turns, taken}
 use Rattle.recipe.proofs.drafts.Draft.admit.Needs as need
 
-pub returns-then-self-ge96 : need.returns-then-self-ge96
-returns-then-self-ge96 c =
+pub returns-then-self-ge-MAX-WORDS : need.returns-then-self-ge-MAX-WORDS
+returns-then-self-ge-MAX-WORDS c =
     full (c .args .at) (c .args .word) (progress (c .args .self .now)) (simp length-take (omega (arith, c .args .self .now .whole)))
 
 pub returns-in-rest : need.returns-in-rest

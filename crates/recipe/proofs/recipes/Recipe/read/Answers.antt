@@ -1,3 +1,4 @@
+-- What is left to show of recipes::Recipe::read.
 use mathlib.Core.Path.{_≡_, sym, ap, _∙_}
 use mathlib.Core.List.{List}
 use native.Mathlib.Omega.{arith}
@@ -13,14 +14,14 @@ use Rattle.refusal.specs.declared.Refusal.the-variants as refusal
 use Rattle.refusal.specs.Reports.{answer, accepted, refused, refusal-answer}
 use Rattle.recipe.specs.declared.recipes.Recipe.{Recipe}
 use Rattle.recipe.specs.declared.words.Word.{Word}
-use Rattle.recipe.specs.Grammar.{Same, Text}
+use Rattle.recipe.specs.Grammar.{Iff, Text}
 use Rattle.recipe.specs.Refused.{Refused}
 use Rattle.recipe.specs.Contents.{read-answer}
 use Rattle.recipe.specs.Judging.{judge, Run, progress, start, runs, admitted-word, read-runs}
 use Rattle.recipe.proofs.Refusing.{refused-why}
 use Rattle.recipe.proofs.Exactly.{refused-judge}
 use Rattle.recipe.proofs.Meaning.{sound}
-use Rattle.recipe.proofs.Saying.{accepted-text, text-accepted}
+use Rattle.recipe.proofs.Accepting.{accepted-text, text-accepted}
 use Rattle.recipe.proofs.Running.{over-space, read-word-here, refused-stays, judged, judged-long}
 use Rattle.recipe.proofs.recipes.Recipe.read.Needs as need
 use Rattle.recipe.proofs.recipes.Recipe.read.Needs.{After-read-word, After-loop-at}
@@ -43,8 +44,8 @@ done c = sym (c .loop-at .inv .1) ∙ ap (λ l. read-runs (accepted (progress (c
 -- the answer that is judged right is the grammar's, and so is a refusal
 every : (text : List ℕ) (r : Result Recipe Refusal) → read-answer r ≡ judge text → record {
   is : read-answer r ≡ judge text;
-  grammar : (ws : List Word) → Same (read-answer r ≡ accepted ws) (Text text ws);
-  refusals : (number place : ℕ) (p : Part) → Same (read-answer r ≡ refused number place p) (Refused text number place p);
+  grammar : (ws : List Word) → Iff (read-answer r ≡ accepted ws) (Text text ws);
+  refusals : (number place : ℕ) (p : Part) → Iff (read-answer r ≡ refused number place p) (Refused text number place p);
 }
 every text r same = record {
   is = same;
@@ -52,8 +53,8 @@ every text r same = record {
   refusals = λ n place p. (λ h. refused-why text n place p (sym same ∙ h), λ f. same ∙ refused-judge text n place p f);
 }
 
-pub returns-then-text-gt4096 : need.returns-then-text-gt4096
-returns-then-text-gt4096 c = every (c .args .text .now) (Err refusal.TextTooLong) (judged-long (c .args .text .now) (c .if-text-gt4096 .taken))
+pub returns-then-text-gt-MAX-TEXT-LEN : need.returns-then-text-gt-MAX-TEXT-LEN
+returns-then-text-gt-MAX-TEXT-LEN c = every (c .args .text .now) (Err refusal.TextTooLong) (judged-long (c .args .text .now) (c .if-text-gt-MAX-TEXT-LEN .taken))
 
 pub loop-at-again-then-text-at-eq32 : need.loop-at-again-then-text-at-eq32
 loop-at-again-then-text-at-eq32 c = (

@@ -1,3 +1,4 @@
+-- What is left to show of recipes::Recipe::text_len.
 use mathlib.Core.Path.{ap}
 use borrow.Author.Needs.{needs}
 use native.Mathlib.Omega.{arith}

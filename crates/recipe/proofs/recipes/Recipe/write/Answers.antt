@@ -1,3 +1,4 @@
+-- What is left to show of recipes::Recipe::write.
 use mathlib.Core.List.{List}
 use mathlib.Core.Path.{_≡_, sym, ap, subst, _∙_}
 use borrow.Author.Needs.{needs}
@@ -16,8 +17,8 @@ use Rattle.recipe.specs.Judging.{judge}
 use Rattle.recipe.specs.Written.{written, write-answer, overwritten, placed}
 use Rattle.recipe.proofs.Legality.{recipe-legal}
 use Rattle.recipe.proofs.Placing.{others, length-written, whole-answer, whole-buffer}
-use Rattle.recipe.proofs.Returning.{written-text, front-holds}
-use Rattle.recipe.proofs.Saying.{text-accepted}
+use Rattle.recipe.proofs.RoundTrip.{written-text, front-holds}
+use Rattle.recipe.proofs.Accepting.{text-accepted}
 use Rattle.recipe.proofs.recipes.Recipe.write.Needs as need
 
 -- the answer and the buffer say that the text reads back, and belongs to the grammar

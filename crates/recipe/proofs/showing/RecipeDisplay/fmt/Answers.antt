@@ -1,3 +1,4 @@
+-- What is left to show of showing::RecipeDisplay::fmt.
 use mathlib.Core.Path.{sym, ap, _∙_}
 use mathlib.Core.List.{_++_}
 use borrow.Author.Needs.{needs}

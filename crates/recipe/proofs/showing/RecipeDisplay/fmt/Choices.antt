@@ -1,3 +1,4 @@
+-- The choices for showing::RecipeDisplay::fmt: its loop's invariant.
 use lib.ListN.{take}
 use Rattle.std.specs.Joined.{joined}
 use Rattle.std.specs.Written.{Plain, Put}

@@ -1,3 +1,4 @@
+-- What is left to show of showing::WordDisplay::fmt.
 use mathlib.Core.Path.{sym, ap, subst, _∙_}
 use mathlib.Core.List.{_∷_, _++_}
 use lib.Utf8.{encode}

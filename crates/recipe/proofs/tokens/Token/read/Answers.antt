@@ -1,3 +1,4 @@
+-- What is left to show of tokens::Token::read.
 use mathlib.Core.Path.{_∙_}
 use native.Mathlib.Omega.{arith}
 use Rattle.recipe.proofs.Shaping.{shape-first}

@@ -1,4 +1,4 @@
--- A text is accepted exactly where it spells its words.
+-- A text is accepted exactly where it belongs to the grammar, as its words.
 use mathlib.Core.Path.{_≡_, refl, sym, ap, subst, _∙_}
 use mathlib.Core.Bool.{true, false}
 use mathlib.Core.Logic.{⊎-elim}
@@ -45,15 +45,15 @@ letter-inside Closing = refl
 letter-inside Alternate = refl
 
 -- a word has bytes, and no space among them
-abbrev Solid : List ℕ → Type 0
-Solid bs = Inside bs × (0 < length bs)
+abbrev WordBytes : List ℕ → Type 0
+WordBytes bs = Inside bs × (0 < length bs)
 
-spells-solid : (w : Word) (bs : List ℕ) → Spells w bs → Solid bs
-spells-solid (Step f) bs s = subst Solid (sym (s .is)) ((letter-inside (f .family), number-inside (s .digits) (s .number)), omega arith)
-spells-solid Hold bs s = subst Solid (sym s) ((refl, tt), omega arith)
-spells-solid Join bs s = subst Solid (sym s) ((refl, tt), omega arith)
-spells-solid Meet bs s = subst Solid (sym s) ((refl, tt), omega arith)
-spells-solid Forget bs s = subst Solid (sym s) ((refl, tt), omega arith)
+spells-bytes : (w : Word) (bs : List ℕ) → Spells w bs → WordBytes bs
+spells-bytes (Step f) bs s = subst WordBytes (sym (s .is)) ((letter-inside (f .family), number-inside (s .digits) (s .number)), omega arith)
+spells-bytes Hold bs s = subst WordBytes (sym s) ((refl, tt), omega arith)
+spells-bytes Join bs s = subst WordBytes (sym s) ((refl, tt), omega arith)
+spells-bytes Meet bs s = subst WordBytes (sym s) ((refl, tt), omega arith)
+spells-bytes Forget bs s = subst WordBytes (sym s) ((refl, tt), omega arith)
 
 pub ends-opens : (t : List ℕ) → Ends t → opens t ≡ false
 ends-opens [] h = refl
@@ -70,7 +70,7 @@ runs-gap (b ∷ gap) t at h =
     ∙ runs-gap gap t (at + 1) (h .1)
     ∙ ap (λ n. runs n t) (omega arith)
 
-runs-word : (bs t : List ℕ) (at : ℕ) → Solid bs → opens t ≡ false → runs at (bs ++ t) ≡ record { place = at; bytes = bs } ∷ runs (at + length bs) t
+runs-word : (bs t : List ℕ) (at : ℕ) → WordBytes bs → opens t ≡ false → runs at (bs ++ t) ≡ record { place = at; bytes = bs } ∷ runs (at + length bs) t
 runs-word [] t at h e = absurd (omega arith)
 runs-word (b ∷ bs) t at h e = run-word at b bs t (h .0) e
 
@@ -80,7 +80,7 @@ spells-means [] text at h = subst (λ rs. Means rs []) (sym (ap (runs at) (sym (
 spells-means (w ∷ ws) text at h =
     let from = at + length (h .gap) in
     subst (λ rs. Means rs (w ∷ ws))
-    (sym (ap (runs at) (h .is) ∙ runs-gap (h .gap) (h .bytes ++ h .rest) at (h .spaces) ∙ runs-word (h .bytes) (h .rest) from (spells-solid w (h .bytes) (h .spells)) (ends-opens (h .rest) (h .ends))))
+    (sym (ap (runs at) (h .is) ∙ runs-gap (h .gap) (h .bytes ++ h .rest) at (h .spaces) ∙ runs-word (h .bytes) (h .rest) from (spells-bytes w (h .bytes) (h .spells)) (ends-opens (h .rest) (h .ends))))
     (spells-word from w (h .bytes) (h .spells), spells-means ws (h .rest) (from + length (h .bytes)) (h .left))
 
 pub after-space : (b : ℕ) (text : List ℕ) (ws : List Word) → b ≡ 32 → SpellsAll text ws → SpellsAll (b ∷ text) ws
