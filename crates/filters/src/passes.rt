@@ -19,7 +19,7 @@ use lattice::Kind;
 use refusal::Refusal;
 
 /// Writes one weight at every place.
-pub(crate) fn fill<K: Copy>(weights: &mut [K], weight: K)
+pub fn fill<K: Copy>(weights: &mut [K], weight: K)
     ensures { λ _. ⌜ now (weights .exit) ≡ replicate (length (now (weights .entry))) weight ⌝ }
 {
     for w in weights.iter_mut() {

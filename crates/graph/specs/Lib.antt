@@ -1,2 +1,5 @@
+pub mod Files
 pub mod Graphs
+pub mod Rules
 pub mod Shapes
+pub mod Verdicts

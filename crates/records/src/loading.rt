@@ -2,12 +2,13 @@
 
 ghost use mathlib.Core.Path.{_≡_};
 ghost use Rattle.refusal.specs.Reports.{accepted, answer};
+ghost use Rattle.graph.specs.Rules.{Iff};
 ghost use Rattle.graph.specs.Shapes.{shape-of};
+ghost use Rattle.graph.specs.Verdicts.{Verdict};
 ghost use Rattle.filters.specs.Weightings.{weighting, before, after};
 ghost use Rattle.records.specs.Formats.{format, bytes-in};
-ghost use Rattle.records.specs.Verdicts.{Verdict};
 ghost use Rattle.records.specs.Calls.{loaded, load-call};
-ghost use Rattle.records.specs.Rules.{Iff, Judged, Loadable};
+ghost use Rattle.records.specs.Rules.{Judged, Loadable};
 use crate::decoding::decode_all;
 use crate::judging::judge;
 use filters::WeightsMut;

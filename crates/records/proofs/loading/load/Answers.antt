@@ -2,7 +2,7 @@ use mathlib.Core.Path.{ap}
 use Rattle.graph.specs.Shapes.{shape-of}
 use Rattle.filters.specs.Weightings.{before}
 use Rattle.records.specs.Formats.{format, bytes-in}
-use Rattle.records.specs.Verdicts.{Verdict}
+use Rattle.graph.specs.Verdicts.{Verdict}
 use Rattle.records.specs.Calls.{Loaded}
 use Rattle.records.proofs.Faults.{accepts, judged}
 use Rattle.records.proofs.loading.load.Needs as need
