@@ -138,7 +138,7 @@ module _ {K : Type 0} (below : K → K → Type 0) (leq : K → K → Bool) (dec
           refused-at edge j (length (g .edges)) _ _ _ (all-edges j (fault .before)) (fault .present) (ends-none (g .order) j (first-end j) (second-end j) (value-at f bytes j) (fault .here))
 
       edge-ends-refused : (j : ℕ) (y : K) → Edge-fault below f g vertices bytes j ((value-at f bytes j ≡ Some y) × (Below-ends below f vertices (edge-at (g .edges) j) y → ⊥))
-        → first-refusal edge (length (g .edges)) ≡ not-below-ends j
+          → first-refusal edge (length (g .edges)) ≡ not-below-ends j
       edge-ends-refused j y fault =
           refused-at edge j (length (g .edges)) _ _ _ (all-edges j (fault .before)) (fault .present) (ends-above (g .order) j (first-end j) (second-end j) (value-at f bytes j) y (fault .here .0) (fault .here .1))
 
@@ -156,21 +156,21 @@ module _ {K : Type 0} (below : K → K → Type 0) (leq : K → K → Bool) (dec
     module _ (w : Weighting K) where
       -- the answer to the edge records, where all before is right
       edges-judged : (edges : Option (List ℕ)) → Fits g w → Lengths-right f g vertices edges → Vertices-right f g vertices
-        → Judged below f g vertices edges w (edges-verdict leq f g vertices edges)
+          → Judged below f g vertices edges w (edges-verdict leq f g vertices edges)
       edges-judged None fit long vs = all-right (record { buffers = fit; lengths = long; vertex-values = vs; edge-values = tt }) refl
       edges-judged (Some bytes) fit long vs =
           elim (settled (edge bytes) (length (g .edges))) [
             | none-refused each ↦ all-right
-              (record { buffers = fit; lengths = long; vertex-values = vs; edge-values = λ j l. edge-right bytes j (each j l) })
-              (all-accepted (edge bytes) (length (g .edges)) each)
+                (record { buffers = fit; lengths = long; vertex-values = vs; edge-values = λ j l. edge-right bytes j (each j l) })
+                (all-accepted (edge bytes) (length (g .edges)) each)
             | first-refused j number place p l before refuses ↦ elim (edge-cases (first-end bytes j) (second-end bytes j) (value-at f bytes j)) [
               | right y is bounds ↦ absurd (not-both (edge bytes j) _ _ _ (ends-some (g .order) j (first-end bytes j) (second-end bytes j) (value-at f bytes j) y is bounds) refuses)
               | no-value missing ↦
-                let fault : Edge-fault below f g vertices bytes j (Has-value f bytes j → ⊥) = record { present = l; before = λ k kl. edge-right bytes k (before k kl); here = missing } in
-                edge-value bytes j fit long vs refl fault (edge-value-refused bytes j fault)
+                  let fault : Edge-fault below f g vertices bytes j (Has-value f bytes j → ⊥) = record { present = l; before = λ k kl. edge-right bytes k (before k kl); here = missing } in
+                  edge-value bytes j fit long vs refl fault (edge-value-refused bytes j fault)
               | above y is fails ↦
-                let fault : Edge-fault below f g vertices bytes j ((value-at f bytes j ≡ Some y) × (Below-ends below f vertices (edge-at (g .edges) j) y → ⊥)) = record { present = l; before = λ k kl. edge-right bytes k (before k kl); here = (is, fails) } in
-                edge-ends bytes j y fit long vs refl fault (edge-ends-refused bytes j y fault)
+                  let fault : Edge-fault below f g vertices bytes j ((value-at f bytes j ≡ Some y) × (Below-ends below f vertices (edge-at (g .edges) j) y → ⊥)) = record { present = l; before = λ k kl. edge-right bytes k (before k kl); here = (is, fails) } in
+                  edge-ends bytes j y fit long vs refl fault (edge-ends-refused bytes j y fault)
             ]
           ]
 
@@ -192,17 +192,17 @@ module _ {K : Type 0} (below : K → K → Type 0) (leq : K → K → Bool) (dec
         after-vertices v = then v (edges-verdict leq f g vertices edges)
 
         records-judged : Fits g w → Lengths-right f g vertices edges
-          → Judged below f g vertices edges w (after-vertices (first-refusal vertex (g .order)))
+            → Judged below f g vertices edges w (after-vertices (first-refusal vertex (g .order)))
         records-judged fit long =
             elim (settled vertex (g .order)) [
               | none-refused each ↦
-                let P : Verdict → Type 0 = λ v. Judged below f g vertices edges w (after-vertices v) in
-                subst P (sym (all-accepted vertex (g .order) each)) (edges-judged edges fit long (λ i l. vertex-right i (each i l)))
+                  let P : Verdict → Type 0 = λ v. Judged below f g vertices edges w (after-vertices v) in
+                  subst P (sym (all-accepted vertex (g .order) each)) (edges-judged edges fit long (λ i l. vertex-right i (each i l)))
               | first-refused i number place p l before refuses ↦ elim (has-value (value-at f vertices i)) [
                 | inl found ↦ absurd (not-both (vertex i) _ _ _ (vertex-some i (value-at f vertices i) (found .0) (found .1)) refuses)
                 | inr missing ↦
-                  let fault : Vertex-fault f g vertices i = record { present = l; before = λ k kl. vertex-right k (before k kl); here = missing } in
-                  vertex-value i fit long fault (ap after-vertices (vertex-refused i fault))
+                    let fault : Vertex-fault f g vertices i = record { present = l; before = λ k kl. vertex-right k (before k kl); here = missing } in
+                    vertex-value i fit long fault (ap after-vertices (vertex-refused i fault))
               ]
             ]
 
@@ -222,8 +222,8 @@ module _ {K : Type 0} (below : K → K → Type 0) (leq : K → K → Bool) (dec
               | inl t ↦ elim (outcomes _ (lengths-decide edges)) [
                 | inr u ↦ bytes-length (t .1) (u .1) (past-buffers (t .1) ∙ cond-false _ _ _ (u .0))
                 | inl u ↦
-                  let P : Verdict → Type 0 = Judged below f g vertices edges w in
-                  subst P (sym (past-buffers (t .1) ∙ past-lengths (u .1))) (records-judged (t .1) (u .1))
+                    let P : Verdict → Type 0 = Judged below f g vertices edges w in
+                    subst P (sym (past-buffers (t .1) ∙ past-lengths (u .1))) (records-judged (t .1) (u .1))
               ]
             ]
 

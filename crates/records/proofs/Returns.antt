@@ -66,7 +66,7 @@ module _ {K : Type 0} (f : Format K) (written : K → List ℕ) (sized : (x : K)
         (here, same)
 
     loadable : Edges-below-ends below g w → (old : Weighting K) → Fits g old
-      → Loadable below f g (joined written (w .vertices)) (Some (joined written (w .edges))) old
+        → Loadable below f g (joined written (w .vertices)) (Some (joined written (w .edges))) old
     loadable bounded old room = record {
       buffers = room;
       lengths = (length-records (w .vertices) ∙ ap (λ n. n * f .width) (fit .0), length-records (w .edges) ∙ ap (λ n. n * f .width) (fit .1));

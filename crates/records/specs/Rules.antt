@@ -80,13 +80,13 @@ pub data Judged {K : Type 0} (below : K → K → Type 0) (f : Format K) (g : Sh
   weights-length : (Fits g w → ⊥) → a ≡ refused 7 0 part.Sheet → Judged below f g vertices edges w a
   bytes-length : Fits g w → (Lengths-right f g vertices edges → ⊥) → a ≡ refused 8 0 part.Sheet → Judged below f g vertices edges w a
   vertex-value : (i : ℕ) → Fits g w → Lengths-right f g vertices edges → Vertex-fault f g vertices i → a ≡ refused 9 i part.Sheet
-    → Judged below f g vertices edges w a
+      → Judged below f g vertices edges w a
   edge-value : (bytes : List ℕ) (j : ℕ) → Fits g w → Lengths-right f g vertices edges → Vertices-right f g vertices → edges ≡ Some bytes
-    → Edge-fault below f g vertices bytes j (Has-value f bytes j → ⊥) → a ≡ refused 9 (g .order + j) part.Sheet
-    → Judged below f g vertices edges w a
+      → Edge-fault below f g vertices bytes j (Has-value f bytes j → ⊥) → a ≡ refused 9 (g .order + j) part.Sheet
+      → Judged below f g vertices edges w a
   edge-ends : (bytes : List ℕ) (j : ℕ) (y : K) → Fits g w → Lengths-right f g vertices edges → Vertices-right f g vertices → edges ≡ Some bytes
-    → Edge-fault below f g vertices bytes j ((value-at f bytes j ≡ Some y) × (Below-ends below f vertices (edge-at (g .edges) j) y → ⊥))
-    → a ≡ refused 10 j part.Sheet → Judged below f g vertices edges w a
+      → Edge-fault below f g vertices bytes j ((value-at f bytes j ≡ Some y) × (Below-ends below f vertices (edge-at (g .edges) j) y → ⊥))
+      → a ≡ refused 10 j part.Sheet → Judged below f g vertices edges w a
 
 -- each weight is what its record stands for
 abbrev pub Stand-for : {K : Type 0} → Format K → List ℕ → List K → Type 0
