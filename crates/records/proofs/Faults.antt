@@ -18,9 +18,11 @@ use Rattle.graph.specs.Shapes.{Shape}
 use Rattle.filters.specs.Calls.{wrong-length}
 use Rattle.filters.specs.Weightings.{Weighting, fits, Fits}
 use Rattle.records.specs.Formats.{Format, value-at}
-use Rattle.records.specs.Verdicts.{Verdict, then, first-refusal, wrong-bytes, not-a-value, not-below-ends, value-verdict, vertex-verdict, bounded, ends-verdict, edge-verdict, edge-at, edges-verdict, bytes-fit, edge-bytes-fit, records-verdict}
+use Rattle.graph.specs.Verdicts.{Verdict, then}
+use Rattle.records.specs.Verdicts.{first-refusal, wrong-bytes, not-a-value, not-below-ends, value-verdict, vertex-verdict, bounded, ends-verdict, edge-verdict, edge-at, edges-verdict, bytes-fit, edge-bytes-fit, records-verdict}
 use Rattle.records.specs.Calls.{load-verdict}
-use Rattle.records.specs.Rules.{Iff, Has-value, Below-ends, Edge-right, Vertices-right, Edges-right, Edge-length, Lengths-right, Loadable, Vertex-fault, Edge-fault, Judged, all-right, weights-length, bytes-length, vertex-value, edge-value, edge-ends}
+use Rattle.graph.specs.Rules.{Iff}
+use Rattle.records.specs.Rules.{Has-value, Below-ends, Edge-right, Vertices-right, Edges-right, Edge-length, Lengths-right, Loadable, Vertex-fault, Edge-fault, Judged, all-right, weights-length, bytes-length, vertex-value, edge-value, edge-ends}
 use Rattle.records.proofs.Firsts.{all-accepted, refused-at, Settled, none-refused, first-refused, settled}
 
 -- a test that decides a fact came out one way or the other

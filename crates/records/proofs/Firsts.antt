@@ -8,7 +8,8 @@ use native.Mathlib.Numerals.{add-one}
 use native.Mathlib.Omega.{arith}
 use Rattle.refusal.specs.Reports.{accepted, refused}
 use Rattle.refusal.specs.declared.Part.{Part}
-use Rattle.records.specs.Verdicts.{Verdict, then, first-refusal}
+use Rattle.graph.specs.Verdicts.{Verdict, then}
+use Rattle.records.specs.Verdicts.{first-refusal}
 
 module _ (verdict : ℕ → Verdict) where
   -- one record more

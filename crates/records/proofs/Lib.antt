@@ -3,3 +3,4 @@ pub mod Firsts
 pub mod Faults
 pub mod Places
 pub mod Returns
+pub mod Bounds

@@ -21,7 +21,8 @@ use Rattle.graph.specs.Shapes.{Shape}
 use Rattle.filters.specs.Algebra.{Stands, Edges-below-ends}
 use Rattle.filters.specs.Weightings.{Weighting, weighting, fits, Fits}
 use Rattle.records.specs.Formats.{Format, record-at, value-at, value-or, values}
-use Rattle.records.specs.Verdicts.{Verdict, edge-at}
+use Rattle.graph.specs.Verdicts.{Verdict}
+use Rattle.records.specs.Verdicts.{edge-at}
 use Rattle.records.specs.Calls.{Bytes, bytes-of-both, by-verdict, loaded, load-call, load-verdict, record-weights, Stores, stored, store-call, store-verdict}
 use Rattle.records.specs.Rules.{Stand-for, Loadable, Loads-back}
 use Rattle.records.proofs.Faults.{outcomes, not-both, buffers-decide, accepts}

@@ -6,14 +6,15 @@ use lib.ListN.{length}
 use Rattle.std.specs.Joined.{joined}
 use Rattle.std.specs.declared.option.Option.{Option}
 use Rattle.std.specs.declared.option.Option.the-variants.{Some, None}
-use Rattle.refusal.specs.Reports.{Answer, accepted, refused}
+use Rattle.refusal.specs.Reports.{accepted, refused}
 use Rattle.lattice.specs.Lattices.{Operations}
 use Rattle.graph.specs.Shapes.{Shape}
+use Rattle.graph.specs.Verdicts.{Verdict}
 use Rattle.filters.specs.Calls.{wrong-length}
 use Rattle.filters.specs.Passes.{meets, to-edges}
 use Rattle.filters.specs.Weightings.{Weighting, weighting, fits}
 use Rattle.records.specs.Formats.{Format, values}
-use Rattle.records.specs.Verdicts.{Verdict, bytes-fit, records-verdict, wrong-bytes}
+use Rattle.records.specs.Verdicts.{bytes-fit, records-verdict, wrong-bytes}
 
 -- what buffers hold after a verdict: something new where it accepts, and what they held where it refuses
 abbrev pub by-verdict : {X : Type 0} → Verdict → X → X → X

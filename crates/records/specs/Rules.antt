@@ -4,23 +4,20 @@ use mathlib.Core.Bool.{Bool}
 use mathlib.Core.List.{List}
 use mathlib.Core.Path.{_≡_}
 use Prim.Native.Nat.{ℕ, _+_, _*_, _<_}
-use lib.ListN.{length, getD}
+use lib.ListN.{length}
 use Rattle.std.specs.declared.option.Option.{Option}
 use Rattle.std.specs.declared.option.Option.the-variants.{Some, None}
-use Rattle.refusal.specs.Reports.{Answer, accepted, refused}
+use Rattle.refusal.specs.Reports.{accepted, refused}
 use Rattle.refusal.specs.declared.Part.the-variants as part
 use Rattle.lattice.specs.Lattices.{Operations}
 use Rattle.graph.specs.Shapes.{Shape}
+use Rattle.graph.specs.Verdicts.{Verdict}
 use Rattle.graph.specs.declared.edges.Edge.{Edge}
 use Rattle.filters.specs.Algebra.{Stands, Edges-below-ends}
 use Rattle.filters.specs.Weightings.{Weighting, Fits}
 use Rattle.records.specs.Formats.{Format, value-at}
-use Rattle.records.specs.Verdicts.{Verdict, edge-at}
+use Rattle.records.specs.Verdicts.{edge-at}
 use Rattle.records.specs.Calls.{Bytes, loaded, load-call}
-
--- each fact gives the other
-abbrev pub Iff : Type 0 → Type 0 → Type 0
-Iff P Q = (P → Q) × (Q → P)
 
 -- record i stands for a value
 abbrev pub Has-value : {K : Type 0} → Format K → List ℕ → ℕ → Type 0

@@ -6,20 +6,12 @@ use lib.Dec.{eqb}
 use lib.ListN.{length, getD}
 use Rattle.std.specs.declared.option.Option.{Option}
 use Rattle.std.specs.declared.option.Option.the-variants.{Some, None}
-use Rattle.refusal.specs.Reports.{Answer, accepted, refused}
+use Rattle.refusal.specs.Reports.{accepted, refused}
 use Rattle.refusal.specs.declared.Part.the-variants as part
 use Rattle.graph.specs.Shapes.{Shape}
+use Rattle.graph.specs.Verdicts.{Verdict, then}
 use Rattle.graph.specs.declared.edges.Edge.{Edge}
 use Rattle.records.specs.Formats.{Format, value-at}
-
--- accepted with no value, or refused
-abbrev pub Verdict : Type 0
-Verdict = Answer (Unit {0})
-
--- the first of two verdicts that refuses
-abbrev pub then : Verdict → Verdict → Verdict
-then (accepted u) b = b
-then (refused number place p) b = refused number place p
 
 -- the first refusal among the verdicts on the records 0 to n - 1
 abbrev pub first-refusal : (ℕ → Verdict) → ℕ → Verdict

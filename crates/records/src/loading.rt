@@ -2,12 +2,14 @@
 
 ghost use mathlib.Core.Path.{_≡_};
 ghost use Rattle.refusal.specs.Reports.{accepted, answer};
+ghost use Rattle.graph.specs.Rules.{Iff};
 ghost use Rattle.graph.specs.Shapes.{shape-of};
+ghost use Rattle.graph.specs.Verdicts.{Verdict};
+ghost use Rattle.filters.specs.Algebra.{Edges-below-ends};
 ghost use Rattle.filters.specs.Weightings.{weighting, before, after};
 ghost use Rattle.records.specs.Formats.{format, bytes-in};
-ghost use Rattle.records.specs.Verdicts.{Verdict};
 ghost use Rattle.records.specs.Calls.{loaded, load-call};
-ghost use Rattle.records.specs.Rules.{Iff, Judged, Loadable};
+ghost use Rattle.records.specs.Rules.{Judged, Loadable};
 use crate::decoding::decode_all;
 use crate::judging::judge;
 use filters::WeightsMut;
@@ -64,6 +66,7 @@ pub fn load<K: Stored>(
     ensures call { λ r. ⌜ loaded (answer r) (after (weights .exit)) ≡ load-call (K·Kind .operations) (K·Kind .leq) (format (K·Stored .size) (K·Stored .parsed)) (shape-of (now (graph .entry))) (now («vertex_records» .entry)) (bytes-in («edge_records» .entry)) (before (weights .entry)) ⌝ }
     ensures accepted { λ r. ⌜ Iff (answer r ≡ accepted tt) (Loadable (K·Kind .below) (format (K·Stored .size) (K·Stored .parsed)) (shape-of (now (graph .entry))) (now («vertex_records» .entry)) (bytes-in («edge_records» .entry)) (before (weights .entry))) ⌝ }
     ensures judged { λ r. ⌜ ((a : Verdict) → Iff (answer r ≡ a) (Judged (K·Kind .below) (format (K·Stored .size) (K·Stored .parsed)) (shape-of (now (graph .entry))) (now («vertex_records» .entry)) (bytes-in («edge_records» .entry)) (before (weights .entry)) a)) ⌝ }
+    ensures bounded { λ r. ⌜ (answer r ≡ accepted tt → Edges-below-ends (K·Kind .below) (shape-of (now (graph .entry))) (after (weights .exit))) ⌝ }
 {
     let WeightsMut { vertices, edges } = weights;
     load_into(graph, vertex_records, edge_records, vertices, edges)

@@ -4,7 +4,8 @@ use native.Mathlib.Omega.{arith}
 use lib.ListN.{length}
 use Rattle.std.proofs.shelf.Results.{err-from-errBy}
 use Rattle.records.specs.Formats.{format}
-use Rattle.records.specs.Verdicts.{Verdict, edge-verdict, edge-at}
+use Rattle.graph.specs.Verdicts.{Verdict}
+use Rattle.records.specs.Verdicts.{edge-verdict, edge-at}
 use Rattle.records.proofs.Extents.{record-within}
 use Rattle.records.proofs.Firsts.{verdict-more, refused-at}
 use Rattle.records.proofs.judging.judge_edges.Needs as need

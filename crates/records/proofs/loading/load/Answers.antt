@@ -1,9 +1,10 @@
-use mathlib.Core.Path.{ap}
+use mathlib.Core.Path.{sym, ap, subst, _∙_}
 use Rattle.graph.specs.Shapes.{shape-of}
-use Rattle.filters.specs.Weightings.{before}
+use Rattle.filters.specs.Algebra.{Edges-below-ends}
+use Rattle.filters.specs.Weightings.{Weighting, before}
 use Rattle.records.specs.Formats.{format, bytes-in}
-use Rattle.records.specs.Verdicts.{Verdict}
-use Rattle.records.specs.Calls.{Loaded}
+use Rattle.records.specs.Calls.{Loaded, by-verdict, record-weights}
+use Rattle.records.proofs.Bounds.{edges-below-ends}
 use Rattle.records.proofs.Faults.{accepts, judged}
 use Rattle.records.proofs.loading.load.Needs as need
 
@@ -16,8 +17,14 @@ returns g c =
     let edges = bytes-in (c .args .edge-records) in
     let w = before (c .args .weights) in
     let verdict = ap (λ (l : Loaded _). l .answer) (c .load-into .ensures) in
+    let right = accepts (g .K·Kind .below) leq (g .K·Kind·met .decided) f graph vertices w edges _ verdict in
     record {
       call = c .load-into .ensures;
-      accepted = accepts (g .K·Kind .below) leq (g .K·Kind·met .decided) f graph vertices w edges _ verdict;
+      accepted = right;
       judged = λ a. judged (g .K·Kind .below) leq (g .K·Kind·met .decided) f graph vertices w edges _ a verdict;
+      bounded = λ is.
+          let new = record-weights (g .K·Kind .operations) f graph vertices edges in
+          let written = ap (λ (l : Loaded _). l .weights) (c .load-into .ensures) ∙ ap (λ v. by-verdict v new w) (sym verdict ∙ is) in
+          let P : Weighting _ → Type 0 = Edges-below-ends (g .K·Kind .below) graph in
+          subst P (sym written) (edges-below-ends (g .K·Kind .below) (g .K·Kind .operations) (g .K·Kind·met .lattice) f graph vertices w edges (right .0 is));
     }
