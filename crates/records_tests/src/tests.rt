@@ -31,6 +31,11 @@ fn edge(first: u32, second: u32) -> Edge {
     Edge { first, second }
 }
 
+/// Edge records that are absent. (A literal `None` in the call is not covered by the borrow checker yet.)
+fn absent() -> Option<&'static [u8]> {
+    None
+}
+
 /// What loading these records answers.
 fn loaded<K: Stored>(
     graph: &Graph,
@@ -106,7 +111,7 @@ fn absent_edges_are_met() -> Result<(), Fail> {
     let mut edges = [level(9); 2];
     let vertex_records = [4, 0, 7, 0, 6, 0];
     check_eq(
-        loaded(&graph, &vertex_records, None, &mut vertices, &mut edges),
+        loaded(&graph, &vertex_records, absent(), &mut vertices, &mut edges),
         ACCEPTED,
     )?;
     check(vertices == [level(4), level(7), level(6)])?;
@@ -136,12 +141,12 @@ fn two_levels_in_five_bytes() -> Result<(), Fail> {
     let mut vertices = [level(9); 2];
     let none: &mut [Level] = &mut [];
     check_eq(
-        loaded(&graph, &[1, 0, 2, 0, 3], None, &mut vertices, none),
+        loaded(&graph, &[1, 0, 2, 0, 3], absent(), &mut vertices, none),
         refused(8, 0),
     )?;
     check(vertices == [level(9), level(9)])?;
     check_eq(
-        loaded(&graph, &[1, 0, 2], None, &mut vertices, none),
+        loaded(&graph, &[1, 0, 2], absent(), &mut vertices, none),
         refused(8, 0),
     )?;
     check(vertices == [level(9), level(9)])
@@ -154,7 +159,7 @@ fn two_vertices_in_three_places() -> Result<(), Fail> {
     let mut vertices = [level(9); 3];
     let none: &mut [Level] = &mut [];
     check_eq(
-        loaded(&graph, &[1, 0, 2, 0], None, &mut vertices, none),
+        loaded(&graph, &[1, 0, 2, 0], absent(), &mut vertices, none),
         refused(7, 0),
     )?;
     check(vertices == [level(9), level(9), level(9)])?;
@@ -162,7 +167,7 @@ fn two_vertices_in_three_places() -> Result<(), Fail> {
     let mut two = [level(9); 2];
     let mut one = [level(9); 1];
     check_eq(
-        loaded(&graph, &[1, 0, 2, 0], None, &mut two, &mut one),
+        loaded(&graph, &[1, 0, 2, 0], absent(), &mut two, &mut one),
         refused(7, 0),
     )
 }
@@ -175,11 +180,11 @@ fn weight_buffers_come_first() -> Result<(), Fail> {
     let mut vertices = [Presence::Absent; 3];
     let none: &mut [Presence] = &mut [];
     check_eq(
-        loaded(&graph, &[0, 1, 1, 1, 1], None, &mut vertices, none),
+        loaded(&graph, &[0, 1, 1, 1, 1], absent(), &mut vertices, none),
         refused(7, 0),
     )?;
     check_eq(
-        loaded(&graph, &[2, 2], None, &mut vertices, none),
+        loaded(&graph, &[2, 2], absent(), &mut vertices, none),
         refused(7, 0),
     )
 }
@@ -333,7 +338,7 @@ fn reversed_levels() -> Result<(), Fail> {
     )?;
     check(edges == [reversed(7)])?;
     check_eq(
-        loaded(&graph, &[4, 0, 6, 0], None, &mut vertices, &mut edges),
+        loaded(&graph, &[4, 0, 6, 0], absent(), &mut vertices, &mut edges),
         ACCEPTED,
     )?;
     check(vertices == [reversed(4), reversed(6)])?;
@@ -371,7 +376,7 @@ fn class_sets() -> Result<(), Fail> {
     )?;
     check(edges == [Classes::from_bits(2)])?;
     check_eq(
-        loaded(&graph, &vertex_records, None, &mut vertices, &mut edges),
+        loaded(&graph, &vertex_records, absent(), &mut vertices, &mut edges),
         ACCEPTED,
     )?;
     check(
@@ -389,10 +394,10 @@ fn the_empty_graph() -> Result<(), Fail> {
     let graph = Graph::empty();
     let vertices: &mut [Level] = &mut [];
     let edges: &mut [Level] = &mut [];
-    check_eq(loaded(&graph, &[], None, vertices, edges), ACCEPTED)?;
+    check_eq(loaded(&graph, &[], absent(), vertices, edges), ACCEPTED)?;
     check_eq(loaded(&graph, &[], Some(&[]), vertices, edges), ACCEPTED)?;
     check_eq(
-        loaded(&graph, &[0, 0], None, vertices, edges),
+        loaded(&graph, &[0, 0], absent(), vertices, edges),
         refused(8, 0),
     )?;
     check_eq(
