@@ -4,12 +4,12 @@
 #
 #   rt check bench && bench/run.sh [TURNS [REPEAT]]
 #
-# TURNS is how often each program is started (5), and REPEAT how often it runs the filter each time (15). The exit status is 1 where
+# TURNS is how often each program is started (7), and REPEAT how often it runs the filter each time (30). The exit status is 1 where
 # the two programs come to different weights, and 2 where one of them could not be run.
 set -eu
 
-turns=${1:-5}
-repeat=${2:-15}
+turns=${1:-7}
+repeat=${2:-30}
 here=$(cd "$(dirname "$0")" && pwd)
 rattle=$here/../target/bin/bench
 work=$(mktemp -d)
