@@ -15,7 +15,7 @@ pub struct Job {
 
 impl Job {
     /// Reads the arguments after the program's name.
-    pub fn parse(words: &[String]) -> Result<Job, AnyError> {
+    pub(crate) fn parse(words: &[String]) -> Result<Job, AnyError> {
         match words {
             [mesh, width, height, rest @ ..] if mesh.as_str() == "grid" => {
                 Job::on(parse_grid(width.as_str(), height.as_str())?, rest)

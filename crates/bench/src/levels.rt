@@ -17,7 +17,7 @@ pub struct Buffers {
 
 impl Buffers {
     /// All weights lowest.
-    pub fn lowest(heap: Global, n: usize, m: usize) -> Result<Buffers, AnyError> {
+    pub(crate) fn lowest(heap: Global, n: usize, m: usize) -> Result<Buffers, AnyError> {
         Ok(Buffers {
             vertices: vec![in heap; Level::lowest(); n]?,
             edges: vec![in heap; Level::lowest(); m]?,
@@ -25,7 +25,7 @@ impl Buffers {
     }
 
     /// The starting weights: those of the vertices by the generator, and each edge the meet of its ends.
-    pub fn starting(heap: Global, n: usize, table: &[Edge]) -> Result<Buffers, AnyError> {
+    pub(crate) fn starting(heap: Global, n: usize, table: &[Edge]) -> Result<Buffers, AnyError> {
         let mut generator = Generator::new(1);
         let mut vertices = Vec::new(heap);
         for _ in 0..n {
@@ -41,7 +41,7 @@ impl Buffers {
     }
 
     /// Makes the weights those of the other.
-    pub fn copy_from(&mut self, other: &Buffers) -> Result<(), AnyError> {
+    pub(crate) fn copy_from(&mut self, other: &Buffers) -> Result<(), AnyError> {
         self.vertices.clear();
         self.vertices.extend_from_slice(other.vertices.as_slice())?;
         self.edges.clear();
@@ -50,7 +50,7 @@ impl Buffers {
     }
 
     /// The 64-bit FNV-1a hash of the weights of the vertices and then of the edges, two bytes each, the low one first.
-    pub fn checksum(&self) -> u64 {
+    pub(crate) fn checksum(&self) -> u64 {
         let hash = hash_on(14695981039346656037, self.vertices.as_slice());
         hash_on(hash, self.edges.as_slice())
     }

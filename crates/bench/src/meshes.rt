@@ -16,7 +16,7 @@ pub enum Mesh {
 
 impl Mesh {
     /// Whether a grid has a vertex, and at most 1,000,000 of them.
-    pub fn grid_is_small(width: u32, height: u32) -> bool {
+    pub(crate) fn grid_is_small(width: u32, height: u32) -> bool {
         match width.checked_mul(height) {
             Some(n) => 1 <= n && n <= 1_000_000,
             None => false,
@@ -24,7 +24,7 @@ impl Mesh {
     }
 
     /// Whether so many edges are at most half of those that there can be, so that the generator soon finds them.
-    pub fn random_is_sparse(n: u32, m: u32) -> bool {
+    pub(crate) fn random_is_sparse(n: u32, m: u32) -> bool {
         if n < 2 || n > 1_000_000 || m > 4_000_000 {
             return false;
         }
@@ -33,7 +33,7 @@ impl Mesh {
     }
 
     /// How many vertices there are.
-    pub fn order(self) -> usize {
+    pub(crate) fn order(self) -> usize {
         match self {
             Mesh::Grid { width, height } => width.wrapping_mul(height) as usize,
             Mesh::Random { n, .. } => n as usize,
@@ -41,7 +41,7 @@ impl Mesh {
     }
 
     /// The edge table.
-    pub fn edges(self, heap: Global) -> Result<Vec<Edge>, AnyError> {
+    pub(crate) fn edges(self, heap: Global) -> Result<Vec<Edge>, AnyError> {
         match self {
             Mesh::Grid { width, height } => grid(heap, width, height),
             Mesh::Random { n, m, seed } => random(heap, n, m as usize, seed),

@@ -73,7 +73,7 @@ fn repeat_on(rt: &LibcRuntime, job: Job, graph: &Graph) -> Result<(), AnyError> 
 }
 
 /// Does a job: makes its graph, runs its filter, and prints the result.
-pub fn measure(rt: &LibcRuntime, job: Job) -> Result<(), AnyError> {
+pub(crate) fn measure(rt: &LibcRuntime, job: Job) -> Result<(), AnyError> {
     let table = job.mesh.edges(rt.alloc())?;
     let mut graph = Graph::empty();
     match judge(&mut graph, job.mesh.order(), table.as_slice()) {

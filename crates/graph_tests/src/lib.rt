@@ -8,7 +8,7 @@ use refusal::Part;
 use refusal::Refusal;
 
 /// The number, the place and the part that a call answers; a 0 and no part where it is accepted.
-pub fn outcome(answer: Result<(), Refusal>) -> (u8, usize, Option<Part>) {
+fn outcome(answer: Result<(), Refusal>) -> (u8, usize, Option<Part>) {
     match answer {
         Ok(()) => (0, 0, None),
         Err(refusal) => (refusal.number(), refusal.place(), Some(refusal.part())),

@@ -65,12 +65,7 @@ fn open<'g, 'e>(
     vertices: &mut [Level],
     edges: &mut [Level],
 ) -> Result<Sheet<'g, 'e, Level, Clear>, Refusal> {
-    Sheet::open(
-        graph,
-        records,
-        edge_records,
-        WeightsMut { vertices, edges },
-    )
+    Sheet::open(graph, records, edge_records, WeightsMut { vertices, edges })
 }
 
 /// Runs a recipe on the weights of a sheet.
