@@ -6,6 +6,7 @@ use Prim.Native.Nat.{ℕ, _<_}
 use native.Mathlib.Omega.{arith}
 use lib.ListN.{length, getD}
 use Rattle.lattice.specs.Lattices.{Operations, Lattice}
+use Rattle.lattice.proofs.Lattices.{turned-order, turned-lattice}
 use Rattle.graph.specs.Shapes.{Shape, Accepted}
 use Rattle.filters.specs.Algebra.{filter, Stands, At-edge, Each-below, Below, Dilation-adjoint, Leaves, Openings-absorb, Closings-absorb, Alternates-absorb, Edges-below-ends, Edges-stay-below-ends}
 use Rattle.filters.specs.Filters.{Passes, exchanged, rounds, dilated, eroded, filter-by, in-turn, largest, last-of}
@@ -15,8 +16,8 @@ use Rattle.filters.specs.declared.families.Family.the-variants.{Dilation, Eros
 use Rattle.filters.specs.declared.families.Filter.{Filter}
 use Rattle.filters.proofs.Adjunctions.{Row, Row-below, row-passes, row-lawful}
 use Rattle.filters.proofs.Nesting.{Lawful, lawful-exchanged, Carried, carried-exchanged, filter-carried, filter-related, bounded-rounds, dilated-adjoint, openings, closings}
-use Rattle.filters.proofs.Orders.{turned-order, largest-decides, last-decides}
-use Rattle.filters.proofs.Suprema.{turned-lattice, read-stands, edge-suprema}
+use Rattle.filters.proofs.Orders.{largest-decides, last-decides}
+use Rattle.filters.proofs.Suprema.{read-stands, edge-suprema}
 
 row-carried : {K : Type 0} (k : Operations K) (g : Shape) → Carried (row-passes k g) (passes k g) (λ x. x .0) (λ y. y .0)
 row-carried k g = record { joins-over = λ x. refl; meets-over = λ x. refl; joins-back = λ y. refl; meets-back = λ y. refl }

@@ -9,6 +9,7 @@ use lib.ListN.{length, getD}
 use Rattle.std.proofs.shelf.Counted.{length-map-counting}
 use Rattle.std.proofs.shelf.Lists.{length-map, same-lists}
 use Rattle.lattice.specs.Lattices.{Operations, Order, Lattice}
+use Rattle.lattice.proofs.Lattices.{turned-lattice}
 use Rattle.graph.specs.Shapes.{Shape, Accepted}
 use Rattle.filters.specs.Algebra.{Each-below}
 use Rattle.filters.specs.Filters.{Passes}
@@ -16,7 +17,7 @@ use Rattle.filters.specs.Passes.{to-edges, to-vertices, joins, meets}
 use Rattle.filters.specs.Weightings.{passes}
 use Rattle.filters.proofs.Orders.{Adjoint, turned-adjoint}
 use Rattle.filters.proofs.Nesting.{Lawful}
-use Rattle.filters.proofs.Suprema.{turned-lattice, read-stands, stands-read, end-within, vertex-suprema, edge-suprema}
+use Rattle.filters.proofs.Suprema.{read-stands, stands-read, end-within, vertex-suprema, edge-suprema}
 
 -- lists of n weights
 abbrev pub Row : Type 0 → ℕ → Type 0

@@ -7,12 +7,13 @@ use native.Mathlib.Omega.{arith}
 use lib.ListN.{length, getD}
 use Rattle.std.proofs.shelf.Lists.{getD-default, getD-map, length-map}
 use Rattle.lattice.specs.Lattices.{Operations, Lattice, Supremum}
+use Rattle.lattice.proofs.Lattices.{turned-lattice}
 use Rattle.graph.specs.Shapes.{Shape, Accepted}
 use Rattle.graph.specs.declared.edges.Edge.{Edge}
 use Rattle.filters.specs.Algebra.{Stands, End, At-vertex, Has-edge, Neighbours, Near, Suprema, Neighbourhoods}
 use Rattle.filters.specs.Passes.{joins, over-ends, to-edges, to-vertices}
 use Rattle.filters.specs.Weightings.{Weighting}
-use Rattle.filters.proofs.Suprema.{turned-lattice, stands-read, end-within, end-below, ends-least, vertex-suprema}
+use Rattle.filters.proofs.Suprema.{stands-read, end-within, end-below, ends-least, vertex-suprema}
 
 module _ {K : Type 0} {below : K → K → Type 0} {k : Operations K} (l : Lattice below k) (g : Shape) (accepted : Accepted g) (xs : List K) (long : length xs ≡ g .order) where
   -- the joins at the edges

@@ -4,10 +4,11 @@ use mathlib.Core.List.{List, _∷_}
 use Prim.Native.Nat.{ℕ, zero, suc, _+_, _*_, _/_, _%_, _<_}
 use native.Mathlib.Omega.{arith}
 use Rattle.lattice.specs.Lattices.{turned, Order}
+use Rattle.lattice.proofs.Lattices.{turned-order}
 use Rattle.filters.specs.Filters.{Passes, exchanged, Rounds, rounds, repeat, alternating, dilated, eroded, opened, closed, alternated, filter-by}
 use Rattle.filters.specs.declared.families.Family.{Family}
 use Rattle.filters.specs.declared.families.Family.the-variants.{Dilation, Erosion, Opening as Open-family, Closing, Alternate}
-use Rattle.filters.proofs.Orders.{Adjoint, turned-adjoint, turned-order, unit, lower-keeps, upper-keeps, Opening, Openings, unchanged, between}
+use Rattle.filters.proofs.Orders.{Adjoint, turned-adjoint, unit, lower-keeps, upper-keeps, Opening, Openings, unchanged, between}
 
 pub record Lawful {X Y : Type 0} (bx : X → X → Type 0) (by : Y → Y → Type 0) (p : Passes X Y) : Type 0 where
   pub ox : Order bx

@@ -10,13 +10,7 @@ use native.Mathlib.Omega.{arith}
 use Rattle.std.proofs.shelf.Tests.{cases-lt}
 use Rattle.filters.specs.Filters.{alternating, in-turn, largest, last-of, Never-falls}
 use Rattle.lattice.specs.Lattices.{turned, Order}
-
-pub turned-order : {X : Type 0} {below : X → X → Type 0} → Order below → Order (turned below)
-turned-order o = record {
-  reflexive = o .reflexive;
-  transitive = λ x y z xy yz. o .transitive z y x yz xy;
-  antisymmetric = λ x y xy yx. o .antisymmetric x y yx xy;
-}
+use Rattle.lattice.proofs.Lattices.{turned-order}
 
 -- an equation gives both orders
 pub below-of : {X : Type 0} {below : X → X → Type 0} → Order below → {x y : X} → x ≡ y → below x y

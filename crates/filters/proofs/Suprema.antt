@@ -10,27 +10,14 @@ use lib.ListN.{length, getD}
 use Rattle.std.proofs.shelf.Counted.{getD-map-counting}
 use Rattle.std.proofs.shelf.Lists.{getD-default, getD-map}
 use Rattle.std.proofs.shelf.Tests.{eq-eqb, eqb-true, or-left, or-right, or-cases, false≢true}
-use Rattle.lattice.specs.Lattices.{turned, Operations, dual, Order, Lattice, Supremum}
+use Rattle.lattice.specs.Lattices.{Operations, Lattice, Supremum}
+use Rattle.lattice.proofs.Lattices.{turned-lattice}
 use Rattle.graph.specs.Graphs.{All-within}
 use Rattle.graph.specs.Shapes.{Shape, Accepted}
 use Rattle.graph.specs.declared.edges.Edge.{Edge}
 use Rattle.filters.specs.Algebra.{Stands, End, At-vertex, At-edge, Suprema, Passes-combine, All-passes-combine}
 use Rattle.filters.specs.Passes.{joins, meets, touches, over-ends, over-edges-at, to-edges, to-vertices}
 use Rattle.filters.specs.Weightings.{Weighting, Fits}
-use Rattle.filters.proofs.Orders.{turned-order}
-
-pub turned-lattice : {K : Type 0} {below : K → K → Type 0} {k : Operations K} → Lattice below k → Lattice (turned below) (dual k)
-turned-lattice l = record {
-  order = turned-order (l .order);
-  lowest-below = l .below-highest;
-  below-highest = l .lowest-below;
-  below-join-left = l .meet-below-left;
-  below-join-right = l .meet-below-right;
-  join-below = l .below-meet;
-  meet-below-left = l .below-join-left;
-  meet-below-right = l .below-join-right;
-  below-meet = l .join-below;
-}
 
 -- what stands at a place is read there, whatever the default
 pub stands-read : {X : Type 0} (xs : List X) (i : ℕ) (x d : X) → Stands xs i x → getD xs i d ≡ x

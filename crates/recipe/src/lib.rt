@@ -26,3 +26,5 @@ pub use turns::TurnPartialEq;
 pub use words::MAX_SIZE;
 pub use words::MAX_WORDS;
 pub use words::Word;
+pub use words::WordEq;
+pub use words::WordPartialEq;

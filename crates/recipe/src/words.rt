@@ -1,6 +1,8 @@
 //! The words of a recipe.
 
 use filters::Filter;
+use filters::FilterEq;
+use filters::FilterPartialEq;
 
 /// The most words that a recipe has.
 pub const MAX_WORDS: usize = 96;
@@ -9,7 +11,7 @@ pub const MAX_WORDS: usize = 96;
 pub const MAX_SIZE: u32 = 200;
 
 /// A word: what one step of a recipe does.
-#[derive(Clone, Copy)]
+#[derive(Clone, Copy, PartialEq, Eq)]
 pub enum Word {
     /// D, E, O, C or A with a size: the filter.
     Step(Filter),
