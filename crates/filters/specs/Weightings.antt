@@ -60,12 +60,12 @@ abbrev pub filtered : {K : Type 0} → Operations K → Shape → Filter → Wei
 filtered k g f w = weighting (filter-by (vertex-rounds k g) (f .family) (f .size) (w .vertices)) (filter-by (edge-rounds k g) (f .family) (f .size) (w .edges))
 
 -- what buffers hold
-abbrev pub held-in : {K : Type 0} → Weights K → Weighting K
-held-in b = weighting (b .vertices .now) (b .edges .now)
+abbrev pub weights-in : {K : Type 0} → Weights K → Weighting K
+weights-in b = weighting (b .vertices .now) (b .edges .now)
 
-abbrev pub before : {K : Type 0} → WeightsMut K → Weighting K
-before b = weighting (b .vertices .now) (b .edges .now)
+abbrev pub weights-before : {K : Type 0} → WeightsMut K → Weighting K
+weights-before b = weighting (b .vertices .now) (b .edges .now)
 
 -- what they hold at the return
-abbrev pub after : {K : Type 0} → RefT (List K) × (RefT (List K) × Unit {0}) → Weighting K
-after b = weighting (b .0 .now) (b .1 .0 .now)
+abbrev pub weights-after : {K : Type 0} → RefT (List K) × (RefT (List K) × Unit {0}) → Weighting K
+weights-after b = weighting (b .0 .now) (b .1 .0 .now)

@@ -6,7 +6,7 @@ ghost use lib.ListN.{length};
 ghost use Rattle.graph.specs.Shapes.{shape-of};
 ghost use Rattle.refusal.specs.Reports.{answer};
 ghost use Rattle.filters.specs.Filters.{opened, closed, alternated, filter-by};
-ghost use Rattle.filters.specs.Weightings.{vertex-rounds, edge-rounds, before, after};
+ghost use Rattle.filters.specs.Weightings.{vertex-rounds, edge-rounds, weights-before, weights-after};
 ghost use Rattle.filters.specs.Calls.{outcome, filter-call};
 use crate::families::Family;
 use crate::families::Filter;
@@ -104,7 +104,7 @@ impl Filter {
         weights: WeightsMut<'_, '_, K>,
         scratch: WeightsMut<'_, '_, K>,
     ) -> Result<(), Refusal>
-        ensures { λ r. ⌜ outcome (answer r) (after (weights .exit)) (after (scratch .exit)) ≡ filter-call operations (shape-of (now (graph .entry))) self (before (weights .entry)) (before (scratch .entry)) ⌝ }
+        ensures { λ r. ⌜ outcome (answer r) (weights-after (weights .exit)) (weights-after (scratch .exit)) ≡ filter-call operations (shape-of (now (graph .entry))) self (weights-before (weights .entry)) (weights-before (scratch .entry)) ⌝ }
     {
         let WeightsMut { vertices, edges } = weights;
         let WeightsMut {

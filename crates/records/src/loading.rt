@@ -6,7 +6,7 @@ ghost use Rattle.graph.specs.Rules.{Iff};
 ghost use Rattle.graph.specs.Shapes.{shape-of};
 ghost use Rattle.graph.specs.Verdicts.{Verdict};
 ghost use Rattle.filters.specs.Algebra.{Edges-below-ends};
-ghost use Rattle.filters.specs.Weightings.{weighting, before, after};
+ghost use Rattle.filters.specs.Weightings.{weighting, weights-before, weights-after};
 ghost use Rattle.records.specs.Formats.{format, bytes-in};
 ghost use Rattle.records.specs.Calls.{loaded, load-call};
 ghost use Rattle.records.specs.Rules.{Judged, Loadable};
@@ -63,10 +63,10 @@ pub fn load<K: Stored>(
     edge_records: Option<&[u8]>,
     weights: WeightsMut<'_, '_, K>,
 ) -> Result<(), Refusal>
-    ensures call { λ r. ⌜ loaded (answer r) (after (weights .exit)) ≡ load-call (K·Kind .operations) (K·Kind .leq) (format (K·Stored .size) (K·Stored .parsed)) (shape-of (now (graph .entry))) (now («vertex_records» .entry)) (bytes-in («edge_records» .entry)) (before (weights .entry)) ⌝ }
-    ensures accepted { λ r. ⌜ Iff (answer r ≡ accepted tt) (Loadable (K·Kind .below) (format (K·Stored .size) (K·Stored .parsed)) (shape-of (now (graph .entry))) (now («vertex_records» .entry)) (bytes-in («edge_records» .entry)) (before (weights .entry))) ⌝ }
-    ensures judged { λ r. ⌜ ((a : Verdict) → Iff (answer r ≡ a) (Judged (K·Kind .below) (format (K·Stored .size) (K·Stored .parsed)) (shape-of (now (graph .entry))) (now («vertex_records» .entry)) (bytes-in («edge_records» .entry)) (before (weights .entry)) a)) ⌝ }
-    ensures bounded { λ r. ⌜ (answer r ≡ accepted tt → Edges-below-ends (K·Kind .below) (shape-of (now (graph .entry))) (after (weights .exit))) ⌝ }
+    ensures call { λ r. ⌜ loaded (answer r) (weights-after (weights .exit)) ≡ load-call (K·Kind .operations) (K·Kind .leq) (format (K·Stored .size) (K·Stored .parsed)) (shape-of (now (graph .entry))) (now («vertex_records» .entry)) (bytes-in («edge_records» .entry)) (weights-before (weights .entry)) ⌝ }
+    ensures accepted { λ r. ⌜ Iff (answer r ≡ accepted tt) (Loadable (K·Kind .below) (format (K·Stored .size) (K·Stored .parsed)) (shape-of (now (graph .entry))) (now («vertex_records» .entry)) (bytes-in («edge_records» .entry)) (weights-before (weights .entry))) ⌝ }
+    ensures judged { λ r. ⌜ ((a : Verdict) → Iff (answer r ≡ a) (Judged (K·Kind .below) (format (K·Stored .size) (K·Stored .parsed)) (shape-of (now (graph .entry))) (now («vertex_records» .entry)) (bytes-in («edge_records» .entry)) (weights-before (weights .entry)) a)) ⌝ }
+    ensures bounded { λ r. ⌜ (answer r ≡ accepted tt → Edges-below-ends (K·Kind .below) (shape-of (now (graph .entry))) (weights-after (weights .exit))) ⌝ }
 {
     let WeightsMut { vertices, edges } = weights;
     load_into(graph, vertex_records, edge_records, vertices, edges)

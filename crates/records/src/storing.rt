@@ -3,7 +3,7 @@
 ghost use mathlib.Core.Path.{_≡_};
 ghost use Rattle.refusal.specs.Reports.{accepted, answer};
 ghost use Rattle.graph.specs.Shapes.{shape-of};
-ghost use Rattle.filters.specs.Weightings.{weighting, held-in};
+ghost use Rattle.filters.specs.Weightings.{weighting, weights-in};
 ghost use Rattle.records.specs.Formats.{format};
 ghost use Rattle.records.specs.Calls.{bytes-of-both, stored, store-call};
 ghost use Rattle.records.specs.Rules.{Stand-for, Loads-back};
@@ -50,10 +50,10 @@ pub fn store<K: Stored>(
     vertex_records: &mut [u8],
     edge_records: &mut [u8],
 ) -> Result<(), Refusal>
-    ensures call { λ r. ⌜ stored (answer r) (bytes-of-both (now («vertex_records» .exit)) (now («edge_records» .exit))) ≡ store-call (K·Stored .size) (K·Stored .written) (shape-of (now (graph .entry))) (held-in (weights .entry)) (bytes-of-both (now («vertex_records» .entry)) (now («edge_records» .entry))) ⌝ }
-    ensures vertices { λ r. ⌜ (answer r ≡ accepted tt → Stand-for (format (K·Stored .size) (K·Stored .parsed)) (now («vertex_records» .exit)) (held-in (weights .entry) .vertices)) ⌝ }
-    ensures edges { λ r. ⌜ (answer r ≡ accepted tt → Stand-for (format (K·Stored .size) (K·Stored .parsed)) (now («edge_records» .exit)) (held-in (weights .entry) .edges)) ⌝ }
-    ensures loads { λ r. ⌜ (answer r ≡ accepted tt → Loads-back (K·Kind .below) (K·Kind .operations) (K·Kind .leq) (format (K·Stored .size) (K·Stored .parsed)) (shape-of (now (graph .entry))) (bytes-of-both (now («vertex_records» .exit)) (now («edge_records» .exit))) (held-in (weights .entry))) ⌝ }
+    ensures call { λ r. ⌜ stored (answer r) (bytes-of-both (now («vertex_records» .exit)) (now («edge_records» .exit))) ≡ store-call (K·Stored .size) (K·Stored .written) (shape-of (now (graph .entry))) (weights-in (weights .entry)) (bytes-of-both (now («vertex_records» .entry)) (now («edge_records» .entry))) ⌝ }
+    ensures vertices { λ r. ⌜ (answer r ≡ accepted tt → Stand-for (format (K·Stored .size) (K·Stored .parsed)) (now («vertex_records» .exit)) (weights-in (weights .entry) .vertices)) ⌝ }
+    ensures edges { λ r. ⌜ (answer r ≡ accepted tt → Stand-for (format (K·Stored .size) (K·Stored .parsed)) (now («edge_records» .exit)) (weights-in (weights .entry) .edges)) ⌝ }
+    ensures loads { λ r. ⌜ (answer r ≡ accepted tt → Loads-back (K·Kind .below) (K·Kind .operations) (K·Kind .leq) (format (K·Stored .size) (K·Stored .parsed)) (shape-of (now (graph .entry))) (bytes-of-both (now («vertex_records» .exit)) (now («edge_records» .exit))) (weights-in (weights .entry))) ⌝ }
 {
     let Weights { vertices, edges } = weights;
     store_from(graph, vertices, edges, vertex_records, edge_records)

@@ -2,7 +2,7 @@
 
 ghost use mathlib.Core.Path.{_≡_};
 ghost use Rattle.filters.specs.Calls.{outcome};
-ghost use Rattle.filters.specs.Weightings.{weighting, held-in, before, after};
+ghost use Rattle.filters.specs.Weightings.{weighting, weights-in, weights-before, weights-after};
 ghost use Rattle.sheet.specs.Calls.{hold-call, join-call, meet-call, forget-call, combine-call};
 ghost use Rattle.sheet.specs.States.{sheet-shape, moved, graph-after};
 use crate::refused::Refused;
@@ -31,7 +31,7 @@ impl<'g, 'e, K: Kind> Sheet<'g, 'e, K, Clear> {
         weights: Weights<'_, '_, K>,
         held: WeightsMut<'_, '_, K>,
     ) -> Result<Sheet<'g, 'e, K, Holding>, Refused<Self>>
-        ensures buffers { λ r. ⌜ outcome (moved r) (held-in (weights .entry)) (after (held .exit)) ≡ hold-call (sheet-shape (self .entry)) (held-in (weights .entry)) (before (held .entry)) ⌝ }
+        ensures buffers { λ r. ⌜ outcome (moved r) (weights-in (weights .entry)) (weights-after (held .exit)) ≡ hold-call (sheet-shape (self .entry)) (weights-in (weights .entry)) (weights-before (held .entry)) ⌝ }
         ensures sheet { λ r. ⌜ graph-after r ≡ self .entry .graph ⌝ }
     {
         let WeightsMut { vertices, edges } = held;
@@ -58,7 +58,7 @@ impl<'g, 'e, K: Kind> Sheet<'g, 'e, K, Holding> {
         weights: WeightsMut<'_, '_, K>,
         held: WeightsMut<'_, '_, K>,
     ) -> Result<Sheet<'g, 'e, K, Clear>, Refused<Self>>
-        ensures buffers { λ r. ⌜ outcome (moved r) (after (weights .exit)) (after (held .exit)) ≡ join-call operations (sheet-shape (self .entry)) (before (weights .entry)) (before (held .entry)) ⌝ }
+        ensures buffers { λ r. ⌜ outcome (moved r) (weights-after (weights .exit)) (weights-after (held .exit)) ≡ join-call operations (sheet-shape (self .entry)) (weights-before (weights .entry)) (weights-before (held .entry)) ⌝ }
         ensures sheet { λ r. ⌜ graph-after r ≡ self .entry .graph ⌝ }
     {
         let WeightsMut { vertices, edges } = weights;
@@ -77,7 +77,7 @@ impl<'g, 'e, K: Kind> Sheet<'g, 'e, K, Holding> {
         weights: WeightsMut<'_, '_, K>,
         held: WeightsMut<'_, '_, K>,
     ) -> Result<Sheet<'g, 'e, K, Clear>, Refused<Self>>
-        ensures buffers { λ r. ⌜ outcome (moved r) (after (weights .exit)) (after (held .exit)) ≡ meet-call operations (sheet-shape (self .entry)) (before (weights .entry)) (before (held .entry)) ⌝ }
+        ensures buffers { λ r. ⌜ outcome (moved r) (weights-after (weights .exit)) (weights-after (held .exit)) ≡ meet-call operations (sheet-shape (self .entry)) (weights-before (weights .entry)) (weights-before (held .entry)) ⌝ }
         ensures sheet { λ r. ⌜ graph-after r ≡ self .entry .graph ⌝ }
     {
         let WeightsMut { vertices, edges } = weights;
@@ -96,7 +96,7 @@ impl<'g, 'e, K: Kind> Sheet<'g, 'e, K, Holding> {
         weights: Weights<'_, '_, K>,
         held: WeightsMut<'_, '_, K>,
     ) -> Result<Sheet<'g, 'e, K, Clear>, Refused<Self>>
-        ensures buffers { λ r. ⌜ outcome (moved r) (held-in (weights .entry)) (after (held .exit)) ≡ forget-call operations (sheet-shape (self .entry)) (held-in (weights .entry)) (before (held .entry)) ⌝ }
+        ensures buffers { λ r. ⌜ outcome (moved r) (weights-in (weights .entry)) (weights-after (held .exit)) ≡ forget-call operations (sheet-shape (self .entry)) (weights-in (weights .entry)) (weights-before (held .entry)) ⌝ }
         ensures sheet { λ r. ⌜ graph-after r ≡ self .entry .graph ⌝ }
     {
         let WeightsMut { vertices, edges } = held;

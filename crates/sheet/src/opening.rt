@@ -2,7 +2,7 @@
 
 ghost use mathlib.Core.Path.{_≡_};
 ghost use Rattle.graph.specs.Shapes.{shape-of};
-ghost use Rattle.filters.specs.Weightings.{held-in, before, after};
+ghost use Rattle.filters.specs.Weightings.{weights-in, weights-before, weights-after};
 ghost use Rattle.records.specs.Calls.{loaded, load-call, bytes-of-both, stored, store-call};
 ghost use Rattle.records.specs.Formats.{format, bytes-in};
 ghost use Rattle.sheet.specs.States.{sheet-shape, opened, Keeps-graph, closed, Hands-back};
@@ -30,7 +30,7 @@ impl<'g, 'e, K: Stored> Sheet<'g, 'e, K, Clear> {
         edge_records: Option<&[u8]>,
         weights: WeightsMut<'_, '_, K>,
     ) -> Result<Sheet<'g, 'e, K, Clear>, Refusal>
-        ensures buffers { λ r. ⌜ loaded (opened r) (after (weights .exit)) ≡ load-call (K·Kind .operations) (K·Kind .leq) (format (K·Stored .size) (K·Stored .parsed)) (shape-of (now (graph .entry))) (now («vertex_records» .entry)) (bytes-in («edge_records» .entry)) (before (weights .entry)) ⌝ }
+        ensures buffers { λ r. ⌜ loaded (opened r) (weights-after (weights .exit)) ≡ load-call (K·Kind .operations) (K·Kind .leq) (format (K·Stored .size) (K·Stored .parsed)) (shape-of (now (graph .entry))) (now («vertex_records» .entry)) (bytes-in («edge_records» .entry)) (weights-before (weights .entry)) ⌝ }
         ensures sheet { λ r. ⌜ Keeps-graph (graph .entry) r ⌝ }
     {
         let WeightsMut { vertices, edges } = weights;
@@ -53,7 +53,7 @@ impl<'g, 'e, K: Stored> Sheet<'g, 'e, K, Clear> {
         vertex_records: &mut [u8],
         edge_records: &mut [u8],
     ) -> Result<(), Refused<Self>>
-        ensures buffers { λ r. ⌜ stored (closed r) (bytes-of-both (now («vertex_records» .exit)) (now («edge_records» .exit))) ≡ store-call (K·Stored .size) (K·Stored .written) (sheet-shape (self .entry)) (held-in (weights .entry)) (bytes-of-both (now («vertex_records» .entry)) (now («edge_records» .entry))) ⌝ }
+        ensures buffers { λ r. ⌜ stored (closed r) (bytes-of-both (now («vertex_records» .exit)) (now («edge_records» .exit))) ≡ store-call (K·Stored .size) (K·Stored .written) (sheet-shape (self .entry)) (weights-in (weights .entry)) (bytes-of-both (now («vertex_records» .entry)) (now («edge_records» .entry))) ⌝ }
         ensures sheet { λ r. ⌜ Hands-back (self .entry .graph) r ⌝ }
     {
         let Weights { vertices, edges } = weights;

@@ -3,7 +3,7 @@
 ghost use mathlib.Core.Path.{_≡_};
 ghost use Rattle.refusal.specs.Reports.{answer};
 ghost use Rattle.graph.specs.Shapes.{shape-of};
-ghost use Rattle.filters.specs.Weightings.{weighting, held-in, before, after};
+ghost use Rattle.filters.specs.Weightings.{weighting, weights-in, weights-before, weights-after};
 ghost use Rattle.sheet.specs.Calls.{reads, read-call};
 ghost use Rattle.sheet.specs.States.{sheet-shape};
 ghost use Rattle.sheet.specs.Statements.{Calls-answered, Refusals-change-nothing, Stories-commute, Stories-adjoint, Stories-absorb};
@@ -32,7 +32,7 @@ impl<'g, 'e, K: Kind, S> Sheet<'g, 'e, K, S> {
         weights: Weights<'_, '_, K>,
         images: WeightsMut<'_, '_, R::Target>,
     ) -> Result<(), Refusal>
-        ensures read { λ r. ⌜ reads (answer r) (after (images .exit)) ≡ read-call (image (now (reading .entry))) (sheet-shape (now (self .entry))) (held-in (weights .entry)) (before (images .entry)) ⌝ }
+        ensures read { λ r. ⌜ reads (answer r) (weights-after (images .exit)) ≡ read-call (image (now (reading .entry))) (sheet-shape (now (self .entry))) (weights-in (weights .entry)) (weights-before (images .entry)) ⌝ }
         ensures answered { λ _. ⌜ Calls-answered (K·Kind .operations) × Calls-answered (Target·Kind .operations) ⌝ }
         ensures unchanged { λ _. ⌜ Refusals-change-nothing (K·Kind .operations) × Refusals-change-nothing (Target·Kind .operations) ⌝ }
         ensures commute { λ _. ⌜ Stories-commute (K·Kind .operations) (Target·Kind .operations) (image (now (reading .entry))) ⌝ }

@@ -6,7 +6,7 @@ ghost use Prim.Native.Nat.{_≤_};
 ghost use lib.ListN.{length};
 ghost use Rattle.refusal.specs.Reports.{answer};
 ghost use Rattle.graph.specs.Shapes.{shape-of};
-ghost use Rattle.filters.specs.Weightings.{weighting, blank, before, after};
+ghost use Rattle.filters.specs.Weightings.{weighting, blank, weights-before, weights-after};
 ghost use Rattle.recipe.specs.Contents.{recipe-words};
 ghost use Rattle.recipe.specs.Legal.{Legal, size-fits, sizes-fit};
 ghost use Rattle.sheet.specs.Calls.{ran, run-call};
@@ -156,7 +156,7 @@ impl<'g, 'e, K: Kind> Sheet<'g, 'e, K, Clear> {
         scratch: WeightsMut<'_, '_, K>,
         held: WeightsMut<'_, '_, K>,
     ) -> Result<(), Refusal>
-        ensures { λ r. ⌜ ran (answer r) (after (weights .exit)) (after (scratch .exit)) (after (held .exit)) (recipe-words (now (place .exit))) ≡ run-call operations (sheet-shape (now (self .entry))) (now (text .entry)) (before (weights .entry)) (before (scratch .entry)) (before (held .entry)) (recipe-words (now (place .entry))) ⌝ }
+        ensures { λ r. ⌜ ran (answer r) (weights-after (weights .exit)) (weights-after (scratch .exit)) (weights-after (held .exit)) (recipe-words (now (place .exit))) ≡ run-call operations (sheet-shape (now (self .entry))) (now (text .entry)) (weights-before (weights .entry)) (weights-before (scratch .entry)) (weights-before (held .entry)) (recipe-words (now (place .entry))) ⌝ }
     {
         let WeightsMut { vertices, edges } = weights;
         let WeightsMut {

@@ -3,7 +3,7 @@
 ghost use mathlib.Core.Path.{_≡_};
 ghost use Rattle.refusal.specs.Reports.{answer};
 ghost use Rattle.filters.specs.Calls.{outcome, filter-call};
-ghost use Rattle.filters.specs.Weightings.{before, after};
+ghost use Rattle.filters.specs.Weightings.{weights-before, weights-after};
 ghost use Rattle.sheet.specs.States.{sheet-shape};
 use crate::states::Sheet;
 use filters::Filter;
@@ -21,7 +21,7 @@ impl<'g, 'e, K: Kind, S> Sheet<'g, 'e, K, S> {
         weights: WeightsMut<'_, '_, K>,
         scratch: WeightsMut<'_, '_, K>,
     ) -> Result<(), Refusal>
-        ensures { λ r. ⌜ outcome (answer r) (after (weights .exit)) (after (scratch .exit)) ≡ filter-call operations (sheet-shape (now (self .entry))) filter (before (weights .entry)) (before (scratch .entry)) ⌝ }
+        ensures { λ r. ⌜ outcome (answer r) (weights-after (weights .exit)) (weights-after (scratch .exit)) ≡ filter-call operations (sheet-shape (now (self .entry))) filter (weights-before (weights .entry)) (weights-before (scratch .entry)) ⌝ }
     {
         let WeightsMut { vertices, edges } = weights;
         let WeightsMut {

@@ -1,7 +1,7 @@
 use mathlib.Core.Path.{sym, ap, subst, _∙_}
 use Rattle.graph.specs.Shapes.{shape-of}
 use Rattle.filters.specs.Algebra.{Edges-below-ends}
-use Rattle.filters.specs.Weightings.{Weighting, before}
+use Rattle.filters.specs.Weightings.{Weighting, weights-before}
 use Rattle.records.specs.Formats.{format, bytes-in}
 use Rattle.records.specs.Calls.{Loaded, by-verdict, record-weights}
 use Rattle.records.proofs.Bounds.{edges-below-ends}
@@ -15,7 +15,7 @@ returns g c =
     let graph = shape-of (c .args .graph .now) in
     let vertices = c .args .vertex-records .now in
     let edges = bytes-in (c .args .edge-records) in
-    let w = before (c .args .weights) in
+    let w = weights-before (c .args .weights) in
     let verdict = ap (λ (l : Loaded _). l .answer) (c .load-into .ensures) in
     let right = accepts (g .K·Kind .below) leq (g .K·Kind·met .decided) f graph vertices w edges _ verdict in
     record {

@@ -2,7 +2,7 @@ use mathlib.Core.List.{List}
 use mathlib.Core.Path.{sym, ap, subst}
 use Prim.Native.Nat.{ℕ}
 use Rattle.graph.specs.Shapes.{shape-of}
-use Rattle.filters.specs.Weightings.{held-in}
+use Rattle.filters.specs.Weightings.{weights-in}
 use Rattle.records.specs.Formats.{format}
 use Rattle.records.specs.Calls.{Bytes}
 use Rattle.records.specs.Rules.{Stand-for, Loads-back}
@@ -17,7 +17,7 @@ returns g c =
     let sized = g .K·Stored·met .sized in
     let read-back = g .K·Stored·met .«read_back» in
     let graph = c .args .graph .now in
-    let w = held-in (c .args .weights) in
+    let w = weights-in (c .args .weights) in
     let call = c .store-from .ensures in
     record {
       call = call;
