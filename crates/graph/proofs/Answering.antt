@@ -11,13 +11,13 @@ use Rattle.std.proofs.shelf.Ways.{leb-tells, eqb-tells, tells}
 use Rattle.std.specs.Vec.{made}
 use Rattle.std.specs.declared.result.Result.{Result}
 use Rattle.std.specs.declared.result.Result.the-variants.{Ok, Err}
-use Rattle.refusal.specs.Reports.{accepted, answer, refused}
+use Rattle.refusal.specs.Reports.{accepted, answer, refused, Verdict}
 use Rattle.refusal.specs.declared.Refusal.{Refusal}
 use Rattle.refusal.specs.declared.Part.the-variants as part
 use Rattle.graph.specs.Files.{file-records}
 use Rattle.graph.specs.Graphs.{All-within, Rising, Sound}
 use Rattle.graph.specs.Rules.{Iff, Rule, ends-rise, end-in-range, above-last, number, Keeps, Faulty, Counts-fit, Too-large, Judged, Whole, File-judged}
-use Rattle.graph.specs.Verdicts.{Verdict, large, records-verdict, verdict, file-verdict}
+use Rattle.graph.specs.Verdicts.{large, records-verdict, verdict, file-verdict}
 use Rattle.graph.specs.declared.edges.Edge.{Edge}
 use Rattle.graph.proofs.Faults.{rightly, wrongly, answered}
 

@@ -12,10 +12,10 @@ use Rattle.std.specs.declared.option.Option.{Option}
 use Rattle.std.specs.declared.option.Option.the-variants.{Some, None}
 use Rattle.std.proofs.shelf.Lists.{getD-default, drop-all}
 use Rattle.std.proofs.shelf.Ways.{leb-tells}
-use Rattle.refusal.specs.Reports.{accepted, refused}
+use Rattle.refusal.specs.Reports.{accepted, refused, Verdict}
 use Rattle.refusal.specs.declared.Part.the-variants as part
 use Rattle.graph.specs.Rules.{Rule, ends-rise, end-in-range, above-last, number, Keeps, Faulty}
-use Rattle.graph.specs.Verdicts.{Verdict, above, record-verdict, records-verdict}
+use Rattle.graph.specs.Verdicts.{above, record-verdict, records-verdict}
 use Rattle.graph.specs.declared.edges.Edge.{Edge}
 use Rattle.graph.proofs.Loops.{records-more}
 

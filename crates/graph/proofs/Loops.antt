@@ -6,8 +6,8 @@ use lib.ListN.{length, drop, getD}
 use Rattle.std.specs.declared.option.Option.{Option}
 use Rattle.std.specs.declared.option.Option.the-variants.{Some}
 use Rattle.std.proofs.shelf.Lists.{drop-more, drop-all}
-use Rattle.refusal.specs.Reports.{accepted}
-use Rattle.graph.specs.Verdicts.{Verdict, then, record-verdict, records-verdict}
+use Rattle.refusal.specs.Reports.{accepted, Verdict}
+use Rattle.graph.specs.Verdicts.{then, record-verdict, records-verdict}
 use Rattle.graph.specs.declared.edges.Edge.{Edge}
 
 -- one record more

@@ -5,11 +5,10 @@ use mathlib.Core.Logic.{_⊎_}
 use mathlib.Core.Path.{_≡_}
 use Prim.Native.Nat.{ℕ, _+_, _%_, _<_, _≤_}
 use lib.ListN.{length, getD}
-use Rattle.refusal.specs.Reports.{accepted, refused}
+use Rattle.refusal.specs.Reports.{accepted, refused, Verdict}
 use Rattle.refusal.specs.declared.Part.the-variants as part
 use Rattle.graph.specs.Files.{file-records}
 use Rattle.graph.specs.Graphs.{Sound, before}
-use Rattle.graph.specs.Verdicts.{Verdict}
 use Rattle.graph.specs.declared.edges.Edge.{Edge}
 
 -- each fact gives the other

@@ -6,15 +6,11 @@ use lib.Dec.{ltb, leb, eqb}
 use lib.ListN.{length}
 use Rattle.std.specs.declared.option.Option.{Option}
 use Rattle.std.specs.declared.option.Option.the-variants.{Some, None}
-use Rattle.refusal.specs.Reports.{Answer, accepted, refused}
+use Rattle.refusal.specs.Reports.{Answer, accepted, refused, Verdict}
 use Rattle.refusal.specs.declared.Part.the-variants as part
 use Rattle.graph.specs.Files.{file-records}
 use Rattle.graph.specs.Graphs.{before}
 use Rattle.graph.specs.declared.edges.Edge.{Edge}
-
--- accepted with no value, or refused
-abbrev pub Verdict : Type 0
-Verdict = Answer (Unit {0})
 
 -- e comes after the record before it, if there is one
 abbrev pub above : Option Edge → Edge → Bool

@@ -11,14 +11,14 @@ use Rattle.std.proofs.shelf.Tests.{cases-bool, cond-true, cond-false}
 use Rattle.std.proofs.shelf.Ways.{decides-and, decides-eqb, not-from-decides}
 use Rattle.std.specs.declared.option.Option.{Option}
 use Rattle.std.specs.declared.option.Option.the-variants.{Some, None}
-use Rattle.refusal.specs.Reports.{accepted, refused}
+use Rattle.refusal.specs.Reports.{accepted, refused, Verdict}
 use Rattle.refusal.specs.declared.Part.{Part}
 use Rattle.refusal.specs.declared.Part.the-variants as part
 use Rattle.graph.specs.Shapes.{Shape}
 use Rattle.filters.specs.Calls.{wrong-length}
 use Rattle.filters.specs.Weightings.{Weighting, fits, Fits}
 use Rattle.records.specs.Formats.{Format, value-at}
-use Rattle.graph.specs.Verdicts.{Verdict, then}
+use Rattle.graph.specs.Verdicts.{then}
 use Rattle.records.specs.Verdicts.{first-refusal, wrong-bytes, not-a-value, not-below-ends, value-verdict, vertex-verdict, bounded, ends-verdict, edge-verdict, edge-at, edges-verdict, bytes-fit, edge-bytes-fit, records-verdict}
 use Rattle.records.specs.Calls.{load-verdict}
 use Rattle.graph.specs.Rules.{Iff}

@@ -6,9 +6,9 @@ use borrow.Author.Count.{below-more}
 use native.Mathlib.Nat.{zero-add, suc-add}
 use native.Mathlib.Numerals.{add-one}
 use native.Mathlib.Omega.{arith}
-use Rattle.refusal.specs.Reports.{accepted, refused}
+use Rattle.refusal.specs.Reports.{accepted, refused, Verdict}
 use Rattle.refusal.specs.declared.Part.{Part}
-use Rattle.graph.specs.Verdicts.{Verdict, then}
+use Rattle.graph.specs.Verdicts.{then}
 use Rattle.records.specs.Verdicts.{first-refusal}
 
 module _ (verdict : ℕ → Verdict) where

@@ -14,16 +14,15 @@ use Rattle.std.specs.Joined.{joined}
 use Rattle.std.specs.Orderings.{Decides}
 use Rattle.std.specs.declared.option.Option.{Option}
 use Rattle.std.specs.declared.option.Option.the-variants.{Some}
-use Rattle.refusal.specs.Reports.{accepted}
+use Rattle.refusal.specs.Reports.{accepted, Verdict, by-verdict}
 use Rattle.lattice.specs.Lattices.{Operations}
 use Rattle.graph.specs.Graphs.{All-within}
 use Rattle.graph.specs.Shapes.{Shape}
 use Rattle.filters.specs.Algebra.{Stands, Edges-below-ends}
 use Rattle.filters.specs.Weightings.{Weighting, weighting, fits, Fits}
 use Rattle.records.specs.Formats.{Format, record-at, value-at, value-or, values}
-use Rattle.graph.specs.Verdicts.{Verdict}
 use Rattle.records.specs.Verdicts.{edge-at}
-use Rattle.records.specs.Calls.{Bytes, bytes-of-both, by-verdict, loaded, load-call, load-verdict, record-weights, Stores, stored, store-call, store-verdict}
+use Rattle.records.specs.Calls.{Bytes, bytes-of-both, loaded, load-call, load-verdict, record-weights, Stores, stored, store-call, store-verdict}
 use Rattle.records.specs.Rules.{Stand-for, Loadable, Loads-back}
 use Rattle.records.proofs.Faults.{outcomes, not-both, buffers-decide, accepts}
 

@@ -6,20 +6,14 @@ use lib.ListN.{length}
 use Rattle.std.specs.Joined.{joined}
 use Rattle.std.specs.declared.option.Option.{Option}
 use Rattle.std.specs.declared.option.Option.the-variants.{Some, None}
-use Rattle.refusal.specs.Reports.{accepted, refused}
+use Rattle.refusal.specs.Reports.{accepted, refused, Verdict, by-verdict}
 use Rattle.lattice.specs.Lattices.{Operations}
 use Rattle.graph.specs.Shapes.{Shape}
-use Rattle.graph.specs.Verdicts.{Verdict}
 use Rattle.filters.specs.Calls.{wrong-length}
 use Rattle.filters.specs.Passes.{meets, to-edges}
 use Rattle.filters.specs.Weightings.{Weighting, weighting, fits}
 use Rattle.records.specs.Formats.{Format, values}
 use Rattle.records.specs.Verdicts.{bytes-fit, records-verdict, wrong-bytes}
-
--- what buffers hold after a verdict: something new where it accepts, and what they held where it refuses
-abbrev pub by-verdict : {X : Type 0} → Verdict → X → X → X
-by-verdict (accepted u) new old = new
-by-verdict (refused number place p) new old = old
 
 -- the weights of the edges, by the weights of the vertices: those of the records, and with no records the meet of the ends
 abbrev pub edge-values : {K : Type 0} → Operations K → Format K → Shape → List K → Option (List ℕ) → List K

@@ -7,11 +7,10 @@ use Prim.Native.Nat.{ℕ, _+_, _*_, _<_}
 use lib.ListN.{length}
 use Rattle.std.specs.declared.option.Option.{Option}
 use Rattle.std.specs.declared.option.Option.the-variants.{Some, None}
-use Rattle.refusal.specs.Reports.{accepted, refused}
+use Rattle.refusal.specs.Reports.{accepted, refused, Verdict}
 use Rattle.refusal.specs.declared.Part.the-variants as part
 use Rattle.lattice.specs.Lattices.{Operations}
 use Rattle.graph.specs.Shapes.{Shape}
-use Rattle.graph.specs.Verdicts.{Verdict}
 use Rattle.graph.specs.declared.edges.Edge.{Edge}
 use Rattle.filters.specs.Algebra.{Stands, Edges-below-ends}
 use Rattle.filters.specs.Weightings.{Weighting, Fits}

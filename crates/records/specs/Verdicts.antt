@@ -6,10 +6,10 @@ use lib.Dec.{eqb}
 use lib.ListN.{length, getD}
 use Rattle.std.specs.declared.option.Option.{Option}
 use Rattle.std.specs.declared.option.Option.the-variants.{Some, None}
-use Rattle.refusal.specs.Reports.{accepted, refused}
+use Rattle.refusal.specs.Reports.{accepted, refused, Verdict}
 use Rattle.refusal.specs.declared.Part.the-variants as part
 use Rattle.graph.specs.Shapes.{Shape}
-use Rattle.graph.specs.Verdicts.{Verdict, then}
+use Rattle.graph.specs.Verdicts.{then}
 use Rattle.graph.specs.declared.edges.Edge.{Edge}
 use Rattle.records.specs.Formats.{Format, value-at}
 

@@ -49,3 +49,12 @@ refusal-answer e = refused (report e .number) (report e .place) (report e .part)
 abbrev pub answer : {A : Type 0} → Result A Refusal → Answer A
 answer (Ok x) = accepted x
 answer (Err e) = refusal-answer e
+
+-- what a call says that hands nothing over: accepted, or refused
+abbrev pub Verdict : Type 0
+Verdict = Answer (Unit {0})
+
+-- what there is after a verdict: something new where it accepts, and the old where it refuses
+abbrev pub by-verdict : {X : Type 0} → Verdict → X → X → X
+by-verdict (accepted u) new old = new
+by-verdict (refused number place p) new old = old

@@ -3,7 +3,7 @@ use mathlib.Core.Bool.{true}
 use mathlib.Core.List.{List, [], _∷_, _++_}
 use mathlib.Core.Path.{_≡_, refl, sym, ap, subst, _∙_}
 use Prim.Native.Nat.{ℕ}
-use Rattle.refusal.specs.Reports.{accepted, refused}
+use Rattle.refusal.specs.Reports.{accepted, refused, Verdict, by-verdict}
 use Rattle.lattice.specs.Lattices.{Operations, Lattice}
 use Rattle.graph.specs.Shapes.{Shape, Accepted}
 use Rattle.filters.specs.Algebra.{filter}
@@ -17,9 +17,8 @@ use Rattle.filters.proofs.Absorption.{dilation-adjoint, openings-absorb, closin
 use Rattle.recipe.specs.Judging.{judge}
 use Rattle.recipe.specs.declared.words.Word.{Word}
 use Rattle.recipe.specs.declared.words.Word.the-variants.{Step, Hold, Join, Meet, Forget}
-use Rattle.sheet.specs.Calls.{Verdict}
 use Rattle.sheet.specs.Statements.{Reached, Stories-adjoint, Accepts-only, Step-makes, Stories-absorb}
-use Rattle.sheet.specs.Stories.{State, clear, holding, Call, step, hold, join, meet, forget, run, by-verdict, Transition, Trace, end, then, weights-of, words-of-text, words-of-call, words-if, accepted-words, Only, sizes-of}
+use Rattle.sheet.specs.Stories.{State, clear, holding, Call, step, hold, join, meet, forget, run, Transition, Trace, end, then, weights-of, words-of-text, words-of-call, words-if, accepted-words, Only, sizes-of}
 use Rattle.sheet.specs.Words.{Held, nothing, something, done}
 use Rattle.sheet.proofs.Effects.{effect, transition-is}
 use Rattle.sheet.proofs.Fitness.{trace-fits, weights-fit}

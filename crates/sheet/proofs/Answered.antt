@@ -6,11 +6,12 @@ use Prim.Native.Nat.{ℕ}
 use borrow.Author.Tests.{eqb-true}
 use lib.Dec.{eqb}
 use lib.ListN.{length, replicate, length-replicate}
+use Rattle.refusal.specs.Reports.{Verdict}
 use Rattle.lattice.specs.Lattices.{Operations}
 use Rattle.graph.specs.Shapes.{Shape}
 use Rattle.filters.specs.Calls.{filter-call}
 use Rattle.filters.specs.Weightings.{Weighting, weighting, Fits}
-use Rattle.sheet.specs.Calls.{Verdict, hold-call, join-call, meet-call, forget-call, run-call}
+use Rattle.sheet.specs.Calls.{hold-call, join-call, meet-call, forget-call, run-call}
 use Rattle.sheet.specs.Statements.{Calls-answered}
 use Rattle.sheet.specs.Stories.{State, clear, holding, Lengths, lengths, lengths-of, vertices-suit, edges-suit, Call, step, hold, join, meet, forget, run, Passed-for, Transition, clear-step, holding-step, clear-hold, holding-join, holding-meet, holding-forget, clear-run, Takes, Fitting}
 use Rattle.sheet.proofs.Fitness.{transition-fits}

@@ -3,7 +3,7 @@ use mathlib.Core.List.{List, [], _∷_, map}
 use mathlib.Core.Path.{_≡_, refl, sym, ap, ap₂, subst₂, _∙_}
 use Prim.Native.Nat.{ℕ}
 use lib.ListN.{length-map}
-use Rattle.refusal.specs.Reports.{accepted, refused}
+use Rattle.refusal.specs.Reports.{accepted, refused, Verdict, by-verdict}
 use Rattle.lattice.specs.Lattices.{Operations}
 use Rattle.lattice.specs.Morphisms.{Morphism}
 use Rattle.graph.specs.Shapes.{Shape, Accepted}
@@ -14,9 +14,8 @@ use Rattle.filters.proofs.Morphic.{filters-commute}
 use Rattle.recipe.specs.Judging.{judge}
 use Rattle.recipe.specs.declared.words.Word.{Word}
 use Rattle.recipe.specs.declared.words.Word.the-variants.{Step, Hold, Join, Meet, Forget}
-use Rattle.sheet.specs.Calls.{Verdict}
 use Rattle.sheet.specs.Statements.{Stories-commute}
-use Rattle.sheet.specs.Stories.{State, clear, holding, Call, step, hold, join, meet, forget, run, by-verdict, Transition, Trace, end, then, Takes, Fitting, read-state, words-of-text}
+use Rattle.sheet.specs.Stories.{State, clear, holding, Call, step, hold, join, meet, forget, run, Transition, Trace, end, then, Takes, Fitting, read-state, words-of-text}
 use Rattle.sheet.specs.Words.{each, combined, Held, nothing, something, combined-held, done}
 use Rattle.sheet.proofs.Answered.{transition-takes, calls-answered}
 use Rattle.sheet.proofs.Effects.{answer-to, effect, transition-is}

@@ -3,7 +3,7 @@ use mathlib.Core.Bool.{Bool, true, false, cond, _&&_, false≢true}
 use mathlib.Core.List.{List}
 use mathlib.Core.Path.{_≡_, refl, sym, ap, ap₂, subst, subst₂, _∙_}
 use Prim.Native.Nat.{ℕ}
-use Rattle.refusal.specs.Reports.{Answer, accepted, refused}
+use Rattle.refusal.specs.Reports.{Answer, accepted, refused, Verdict, by-verdict}
 use Rattle.refusal.specs.declared.Part.{Part}
 use Rattle.lattice.specs.Lattices.{Operations}
 use Rattle.graph.specs.Shapes.{Shape}
@@ -12,8 +12,8 @@ use Rattle.filters.specs.Weightings.{Weighting, weighting, filtered}
 use Rattle.filters.specs.declared.families.Filter.{Filter}
 use Rattle.recipe.specs.Judging.{judge}
 use Rattle.recipe.specs.declared.words.Word.{Word}
-use Rattle.sheet.specs.Calls.{Verdict, sized, hold-call, Ran, ran, run-judged, run-call}
-use Rattle.sheet.specs.Stories.{State, clear, holding, Lengths, lengths-of, vertices-suit, edges-suit, suit, Call, step, hold, join, meet, forget, run, Passed-for, restored, by-verdict, after-step, after-hold, after-release, after-run, Transition, clear-step, holding-step, clear-hold, holding-join, holding-meet, holding-forget, clear-run, words-of-text}
+use Rattle.sheet.specs.Calls.{sized, hold-call, Ran, ran, run-judged, run-call}
+use Rattle.sheet.specs.Stories.{State, clear, holding, Lengths, lengths-of, vertices-suit, edges-suit, suit, Call, step, hold, join, meet, forget, run, Passed-for, restored, after-step, after-hold, after-release, after-run, Transition, clear-step, holding-step, clear-hold, holding-join, holding-meet, holding-forget, clear-run, words-of-text}
 use Rattle.sheet.specs.Words.{combined, nothing, done}
 
 -- what a run answers, by what its text is

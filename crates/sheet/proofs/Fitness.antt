@@ -4,7 +4,7 @@ use mathlib.Core.Path.{_≡_, refl, sym, ap, subst, _∙_}
 use Prim.Native.Nat.{ℕ, suc}
 use native.Mathlib.Omega.{arith}
 use lib.ListN.{length}
-use Rattle.refusal.specs.Reports.{accepted, refused}
+use Rattle.refusal.specs.Reports.{accepted, refused, Verdict, by-verdict}
 use Rattle.lattice.specs.Lattices.{Operations}
 use Rattle.graph.specs.Shapes.{Shape}
 use Rattle.filters.specs.Weightings.{Weighting, Fits, filtered}
@@ -12,8 +12,7 @@ use Rattle.filters.proofs.Absorption.{filtered-fits}
 use Rattle.recipe.specs.Judging.{judge}
 use Rattle.recipe.specs.declared.words.Word.{Word}
 use Rattle.recipe.specs.declared.words.Word.the-variants.{Step, Hold, Join, Meet, Forget}
-use Rattle.sheet.specs.Calls.{Verdict}
-use Rattle.sheet.specs.Stories.{State, clear, holding, Call, step, hold, join, meet, forget, run, by-verdict, Transition, Trace, end, then, Fitting, weights-of, words-of-text}
+use Rattle.sheet.specs.Stories.{State, clear, holding, Call, step, hold, join, meet, forget, run, Transition, Trace, end, then, Fitting, weights-of, words-of-text}
 use Rattle.sheet.specs.Words.{each, combined, Held, nothing, something, combined-held, done}
 use Rattle.sheet.proofs.Effects.{answer-to, effect, transition-is}
 

@@ -7,7 +7,7 @@ use native.Mathlib.Omega.{arith}
 use borrow.Author.Tests.{eq-eqb}
 use Rattle.std.proofs.shelf.Tests.{and-parts, and-from}
 use Rattle.std.proofs.shelf.Ways.{tells}
-use Rattle.refusal.specs.Reports.{Answer, accepted, refused}
+use Rattle.refusal.specs.Reports.{Answer, accepted, refused, Verdict}
 use Rattle.lattice.specs.Lattices.{Operations}
 use Rattle.graph.specs.Shapes.{Shape}
 use Rattle.filters.specs.Calls.{wrong-length, wrong-size, lawful-size, outcome, filter-call}
@@ -19,7 +19,6 @@ use Rattle.recipe.specs.Legal.{sizes-fit, Legal}
 use Rattle.recipe.specs.declared.words.Word.{Word}
 use Rattle.recipe.specs.declared.words.Word.the-variants.{Step, Hold, Join, Meet, Forget}
 use Rattle.recipe.proofs.Legality.{judge-legal}
-use Rattle.sheet.specs.Calls.{Verdict}
 use Rattle.sheet.specs.Stories.{State, Lengths, suit, Call, step, hold, join, meet, forget, run, Trace, end, then, words-of-text, words-if, accepted-words, sizes-of}
 use Rattle.sheet.proofs.Effects.{judged, answer-to, transition-is}
 

@@ -2,7 +2,7 @@
 use mathlib.Core.Bool.{Bool, cond, _&&_}
 use mathlib.Core.List.{List}
 use Prim.Native.Nat.{ℕ}
-use Rattle.refusal.specs.Reports.{Answer, accepted, refused}
+use Rattle.refusal.specs.Reports.{Answer, accepted, refused, Verdict}
 use Rattle.lattice.specs.Lattices.{Operations}
 use Rattle.graph.specs.Shapes.{Shape}
 use Rattle.filters.specs.Algebra.{read-by}
@@ -11,10 +11,6 @@ use Rattle.filters.specs.Weightings.{Weighting, fits, blank}
 use Rattle.recipe.specs.Judging.{judge}
 use Rattle.recipe.specs.declared.words.Word.{Word}
 use Rattle.sheet.specs.Words.{combined, nothing, done}
-
--- what a call says that hands nothing over: accepted, or refused
-abbrev pub Verdict : Type 0
-Verdict = Answer (Unit {0})
 
 -- refused where a buffer has the wrong length, and then all is as it was
 abbrev pub sized : {K : Type 0} → Shape → Weighting K → Weighting K → Outcome Verdict K → Outcome Verdict K

@@ -3,7 +3,7 @@ use mathlib.Core.List.{List, _∷_}
 use mathlib.Core.Logic.{_↔_}
 use mathlib.Core.Path.{_≡_}
 use Prim.Native.Nat.{ℕ, _≤_}
-use Rattle.refusal.specs.Reports.{accepted, refused}
+use Rattle.refusal.specs.Reports.{accepted, refused, Verdict}
 use Rattle.refusal.specs.declared.Part.{Part}
 use Rattle.lattice.specs.Lattices.{Operations}
 use Rattle.graph.specs.Shapes.{Shape, Accepted}
@@ -14,7 +14,6 @@ use Rattle.filters.specs.Weightings.{Weighting, Fits, blank, filtered}
 use Rattle.filters.specs.declared.families.Family.{Family}
 use Rattle.filters.specs.declared.families.Family.the-variants.{Dilation, Erosion, Opening, Closing, Alternate}
 use Rattle.recipe.specs.declared.words.Word.{Word}
-use Rattle.sheet.specs.Calls.{Verdict}
 use Rattle.sheet.specs.Stories.{State, clear, Call, Transition, Trace, Takes, Fitting, weights-of, read-state, accepted-words, Only, sizes-of}
 
 -- Each call that the state takes is answered, with buffers of whatever lengths, and leaves what fits: a story can always go on.

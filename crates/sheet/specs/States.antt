@@ -3,11 +3,10 @@ use mathlib.Core.Path.{_≡_}
 use denote.Ref.{RefT}
 use Rattle.std.specs.declared.result.Result.{Result}
 use Rattle.std.specs.declared.result.Result.the-variants.{Ok, Err}
-use Rattle.refusal.specs.Reports.{accepted, refusal-answer}
+use Rattle.refusal.specs.Reports.{accepted, refusal-answer, Verdict}
 use Rattle.refusal.specs.declared.Refusal.{Refusal}
 use Rattle.graph.specs.Shapes.{Shape, shape-of}
 use Rattle.graph.specs.declared.graphs.Graph.{Graph}
-use Rattle.sheet.specs.Calls.{Verdict}
 use Rattle.sheet.specs.declared.refused.Refused.{Refused}
 use Rattle.sheet.specs.declared.states.Sheet.{Sheet}
 

@@ -5,7 +5,7 @@ use mathlib.Core.Path.{_≡_}
 use Prim.Native.Nat.{ℕ}
 use lib.Dec.{eqb}
 use lib.ListN.{length}
-use Rattle.refusal.specs.Reports.{Answer, accepted, refused}
+use Rattle.refusal.specs.Reports.{Answer, accepted, refused, Verdict, by-verdict}
 use Rattle.lattice.specs.Lattices.{Operations}
 use Rattle.graph.specs.Shapes.{Shape}
 use Rattle.filters.specs.Algebra.{read-by}
@@ -16,7 +16,7 @@ use Rattle.filters.specs.declared.families.Filter.{Filter}
 use Rattle.recipe.specs.Judging.{judge}
 use Rattle.recipe.specs.declared.words.Word.{Word}
 use Rattle.recipe.specs.declared.words.Word.the-variants.{Step, Hold, Join, Meet, Forget}
-use Rattle.sheet.specs.Calls.{Verdict, hold-call, join-call, meet-call, forget-call, Ran, run-call}
+use Rattle.sheet.specs.Calls.{hold-call, join-call, meet-call, forget-call, Ran, run-call}
 
 -- a sheet in its state: the weights, while holding the held ones, and the words in the recipe place
 pub data State (K : Type 0) : Type 0 where
@@ -64,11 +64,6 @@ pub record Passed-for {K : Type 0} (g : Shape) (w : Weighting K) (p : Lengths) (
 -- that of w, which is then as it was.
 abbrev pub restored : {K : Type 0} → Shape → Lengths → Weighting K → Weighting K → Weighting K
 restored g p w v = weighting (cond (vertices-suit g p) (v .vertices) (w .vertices)) (cond (edges-suit g p) (v .edges) (w .edges))
-
--- the state that an accepted call leads to, and the old one where it was refused
-abbrev pub by-verdict : {K : Type 0} → Verdict → State K → State K → State K
-by-verdict (accepted u) new old = new
-by-verdict (refused number place part) new old = old
 
 -- the sheet after each call, by what the call answers and leaves in its buffers
 abbrev pub after-step : {K : Type 0} → Shape → (Weighting K → State K) → Lengths → Weighting K → Outcome Verdict K → State K

@@ -3,8 +3,8 @@ use Prim.Native.Nat.{ℕ}
 use native.Mathlib.Omega.{arith}
 use lib.ListN.{length}
 use Rattle.std.proofs.shelf.Results.{err-from-errBy}
+use Rattle.refusal.specs.Reports.{Verdict}
 use Rattle.records.specs.Formats.{format}
-use Rattle.graph.specs.Verdicts.{Verdict}
 use Rattle.records.specs.Verdicts.{edge-verdict, edge-at}
 use Rattle.records.proofs.Extents.{record-within}
 use Rattle.records.proofs.Firsts.{verdict-more, refused-at}

@@ -1,9 +1,10 @@
 use mathlib.Core.Path.{sym, ap, subst, _∙_}
+use Rattle.refusal.specs.Reports.{by-verdict}
 use Rattle.graph.specs.Shapes.{shape-of}
 use Rattle.filters.specs.Algebra.{Edges-below-ends}
 use Rattle.filters.specs.Weightings.{Weighting, weights-before}
 use Rattle.records.specs.Formats.{format, bytes-in}
-use Rattle.records.specs.Calls.{Loaded, by-verdict, record-weights}
+use Rattle.records.specs.Calls.{Loaded, record-weights}
 use Rattle.records.proofs.Bounds.{edges-below-ends}
 use Rattle.records.proofs.Faults.{accepts, judged}
 use Rattle.records.proofs.loading.load.Needs as need
