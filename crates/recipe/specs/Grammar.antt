@@ -79,7 +79,3 @@ pub record Text (text : List ℕ) (ws : List Word) : Type 0 where
   pub few : length ws ≤ 96
   pub fit : fits Free ws ≡ true
   pub spells : SpellsAll text ws
-
--- one holds exactly where the other does
-abbrev pub Iff : Type 0 → Type 0 → Type 0
-Iff P Q = (P → Q) × (Q → P)

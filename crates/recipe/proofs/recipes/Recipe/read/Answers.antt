@@ -14,7 +14,8 @@ use Rattle.refusal.specs.declared.Refusal.the-variants as refusal
 use Rattle.refusal.specs.Reports.{answer, accepted, refused, refusal-answer}
 use Rattle.recipe.specs.declared.recipes.Recipe.{Recipe}
 use Rattle.recipe.specs.declared.words.Word.{Word}
-use Rattle.recipe.specs.Grammar.{Iff, Text}
+use Rattle.graph.specs.Rules.{Iff}
+use Rattle.recipe.specs.Grammar.{Text}
 use Rattle.recipe.specs.Refused.{Refused}
 use Rattle.recipe.specs.Contents.{read-answer}
 use Rattle.recipe.specs.Judging.{judge, Run, progress, start, runs, admitted-word, read-runs}
