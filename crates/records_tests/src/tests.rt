@@ -104,9 +104,19 @@ fn absent_edges_are_met() -> Result<(), Fail> {
     check(judge(&mut graph, 3, &rows).is_ok())?;
     let mut vertices = [level(9); 3];
     let mut edges = [level(9); 2];
-    let vertex_records = [4, 0, 7, 0, 6, 0];
     check_eq(
-        loaded(&graph, &vertex_records, None, &mut vertices, &mut edges),
+        loaded(
+            &graph,
+            &[4, 0, 7, 0, 6, 0],
+            Some(&[1, 0, 2, 0]),
+            &mut vertices,
+            &mut edges,
+        ),
+        ACCEPTED,
+    )?;
+    check(edges == [level(1), level(2)])?;
+    check_eq(
+        loaded(&graph, &[4, 0, 7, 0, 6, 0], None, &mut vertices, &mut edges),
         ACCEPTED,
     )?;
     check(vertices == [level(4), level(7), level(6)])?;
