@@ -20,35 +20,35 @@ use refusal::Refusal;
 use refusal::RefusalDebug;
 use std::test::*;
 
-pub fn d(size: u32) -> Filter {
+pub(crate) fn d(size: u32) -> Filter {
     Filter {
         family: Family::Dilation,
         size,
     }
 }
 
-pub fn e(size: u32) -> Filter {
+pub(crate) fn e(size: u32) -> Filter {
     Filter {
         family: Family::Erosion,
         size,
     }
 }
 
-pub fn o(size: u32) -> Filter {
+pub(crate) fn o(size: u32) -> Filter {
     Filter {
         family: Family::Opening,
         size,
     }
 }
 
-pub fn c(size: u32) -> Filter {
+pub(crate) fn c(size: u32) -> Filter {
     Filter {
         family: Family::Closing,
         size,
     }
 }
 
-pub fn a(size: u32) -> Filter {
+pub(crate) fn a(size: u32) -> Filter {
     Filter {
         family: Family::Alternate,
         size,
@@ -125,16 +125,16 @@ pub const A3: Filter = Filter {
     size: 3,
 };
 
-pub fn edge(first: u32, second: u32) -> Edge {
+pub(crate) fn edge(first: u32, second: u32) -> Edge {
     Edge { first, second }
 }
 
 // The edges 0-1, 1-2, 2-3 and 3-4.
-pub fn path() -> [Edge; 4] {
+pub(crate) fn path() -> [Edge; 4] {
     [edge(0, 1), edge(1, 2), edge(2, 3), edge(3, 4)]
 }
 
-pub fn levels<const N: usize>(values: [u16; N]) -> [Level; N] {
+pub(crate) fn levels<const N: usize>(values: [u16; N]) -> [Level; N] {
     let mut weights = [Level::new(0); N];
     for (i, value) in values.iter().enumerate() {
         weights[i] = Level::new(*value);
@@ -142,7 +142,7 @@ pub fn levels<const N: usize>(values: [u16; N]) -> [Level; N] {
     weights
 }
 
-pub fn reversed<const N: usize>(values: [u16; N]) -> [Reversed<Level>; N] {
+pub(crate) fn reversed<const N: usize>(values: [u16; N]) -> [Reversed<Level>; N] {
     let mut weights = [Reversed {
         inner: Level::new(0),
     }; N];
@@ -154,7 +154,7 @@ pub fn reversed<const N: usize>(values: [u16; N]) -> [Reversed<Level>; N] {
     weights
 }
 
-pub fn presences<const N: usize>(values: [u8; N]) -> [Presence; N] {
+pub(crate) fn presences<const N: usize>(values: [u8; N]) -> [Presence; N] {
     let mut weights = [Presence::Absent; N];
     for (i, value) in values.iter().enumerate() {
         if *value == 1 {
@@ -165,7 +165,7 @@ pub fn presences<const N: usize>(values: [u8; N]) -> [Presence; N] {
 }
 
 // The number, the place and the part of a refusal; a 0 and no part where the call is accepted.
-pub fn outcome(answer: Result<(), Refusal>) -> (u8, usize, Option<Part>) {
+pub(crate) fn outcome(answer: Result<(), Refusal>) -> (u8, usize, Option<Part>) {
     match answer {
         Ok(()) => (0, 0, None),
         Err(refusal) => (refusal.number(), refusal.place(), Some(refusal.part())),
@@ -175,19 +175,19 @@ pub fn outcome(answer: Result<(), Refusal>) -> (u8, usize, Option<Part>) {
 pub const ACCEPTED: (u8, usize, Option<Part>) = (0, 0, None);
 
 // A refusal of the weights or the size of a filter: it names no place.
-pub fn refused(number: u8) -> (u8, usize, Option<Part>) {
+pub(crate) fn refused(number: u8) -> (u8, usize, Option<Part>) {
     (number, 0, Some(Part::Sheet))
 }
 
 // The graph of these rows, or the empty one where they are refused.
-pub fn graph_of<'a>(n: usize, rows: &'a [Edge]) -> Graph<'a> {
+pub(crate) fn graph_of<'a>(n: usize, rows: &'a [Edge]) -> Graph<'a> {
     let mut graph = Graph::empty();
     let _ = judge(&mut graph, n, rows);
     graph
 }
 
 // Applies a filter on the graph of these rows.
-pub fn apply<'a, K: Kind>(
+pub(crate) fn apply<'a, K: Kind>(
     filter: Filter,
     n: usize,
     rows: &'a [Edge],
@@ -206,7 +206,7 @@ pub fn apply<'a, K: Kind>(
 }
 
 // What the filters, first to last, leave of these weights.
-pub fn filtered<K: Kind, const N: usize, const M: usize>(
+pub(crate) fn filtered<K: Kind, const N: usize, const M: usize>(
     filters: &[Filter],
     rows: &[Edge],
     weights: ([K; N], [K; M]),
@@ -229,17 +229,17 @@ pub fn filtered<K: Kind, const N: usize, const M: usize>(
 }
 
 // Levels on the path.
-pub fn path_levels(vertices: [u16; 5], edges: [u16; 4]) -> ([Level; 5], [Level; 4]) {
+pub(crate) fn path_levels(vertices: [u16; 5], edges: [u16; 4]) -> ([Level; 5], [Level; 4]) {
     (levels(vertices), levels(edges))
 }
 
 // Presences on the path.
-pub fn path_presences(vertices: [u8; 5], edges: [u8; 4]) -> ([Presence; 5], [Presence; 4]) {
+pub(crate) fn path_presences(vertices: [u8; 5], edges: [u8; 4]) -> ([Presence; 5], [Presence; 4]) {
     (presences(vertices), presences(edges))
 }
 
 // Whether each weight is below the other one at its place.
-pub fn all_below<K: Kind>(lower: &[K], upper: &[K]) -> bool {
+pub(crate) fn all_below<K: Kind>(lower: &[K], upper: &[K]) -> bool {
     for (weight, bound) in lower.iter().zip(upper.iter()) {
         if !weight.is_below(*bound) {
             return false;
@@ -252,7 +252,7 @@ pub fn all_below<K: Kind>(lower: &[K], upper: &[K]) -> bool {
 pub type Example<'a> = (&'a [Filter], [u16; 5], [u16; 4]);
 
 // Checks each example.
-pub fn check_examples(examples: &[Example]) -> Result<(), Fail> {
+pub(crate) fn check_examples(examples: &[Example]) -> Result<(), Fail> {
     for (filters, vertices, edges) in examples {
         check_eq(on_path(filters)?, path_levels(*vertices, *edges))?;
     }
@@ -260,7 +260,7 @@ pub fn check_examples(examples: &[Example]) -> Result<(), Fail> {
 }
 
 // What the filters leave of the path sheet.
-pub fn on_path(filters: &[Filter]) -> Result<([Level; 5], [Level; 4]), Refusal> {
+pub(crate) fn on_path(filters: &[Filter]) -> Result<([Level; 5], [Level; 4]), Refusal> {
     let sheet = path_levels([5, 2, 7, 7, 1], [2, 2, 7, 1]);
     filtered(filters, &path(), sheet)
 }

@@ -13,7 +13,7 @@ pub struct Buffers<K> {
 }
 
 // These weights, with the highest value in all other buffers.
-pub fn weights_alone<K: Kind>(weights: ([K; 5], [K; 4])) -> Buffers<K> {
+pub(crate) fn weights_alone<K: Kind>(weights: ([K; 5], [K; 4])) -> Buffers<K> {
     let (vertices, edges) = weights;
     Buffers {
         vertices,
@@ -26,7 +26,7 @@ pub fn weights_alone<K: Kind>(weights: ([K; 5], [K; 4])) -> Buffers<K> {
 }
 
 // These weights and held weights, with the lowest value in scratch.
-pub fn with_held<K: Kind>(weights: ([K; 5], [K; 4]), held: ([K; 5], [K; 4])) -> Buffers<K> {
+pub(crate) fn with_held<K: Kind>(weights: ([K; 5], [K; 4]), held: ([K; 5], [K; 4])) -> Buffers<K> {
     let (vertices, edges) = weights;
     let (held_vertices, held_edges) = held;
     Buffers {
@@ -51,7 +51,7 @@ pub enum Short {
 }
 
 // The buffer, without its last place where it is to be short.
-pub fn cut_short<K>(buffer: &mut [K], short: bool) -> &mut [K] {
+pub(crate) fn cut_short<K>(buffer: &mut [K], short: bool) -> &mut [K] {
     let len = buffer.len();
     if short && len > 0 {
         &mut buffer[..len - 1]

@@ -107,7 +107,7 @@ fn call_holding<'g, 'e, K: Kind>(
 }
 
 // Makes a call, with one of the buffers a place too short or with all as they are.
-pub fn make_call<'g, 'e, K: Kind>(
+pub(crate) fn make_call<'g, 'e, K: Kind>(
     state: State<'g, 'e, K>,
     call: Call,
     short: Short,

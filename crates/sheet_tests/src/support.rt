@@ -10,21 +10,21 @@ use lattice::Presence;
 use refusal::Part;
 use refusal::Refusal;
 
-pub fn d(size: u32) -> Filter {
+pub(crate) fn d(size: u32) -> Filter {
     Filter {
         family: Family::Dilation,
         size,
     }
 }
 
-pub fn e(size: u32) -> Filter {
+pub(crate) fn e(size: u32) -> Filter {
     Filter {
         family: Family::Erosion,
         size,
     }
 }
 
-pub fn o(size: u32) -> Filter {
+pub(crate) fn o(size: u32) -> Filter {
     Filter {
         family: Family::Opening,
         size,
@@ -32,13 +32,13 @@ pub fn o(size: u32) -> Filter {
 }
 
 // The graph of these rows, or the empty one where they are refused.
-pub fn graph_of<'a>(n: usize, rows: &'a [Edge]) -> Graph<'a> {
+pub(crate) fn graph_of<'a>(n: usize, rows: &'a [Edge]) -> Graph<'a> {
     let mut graph = Graph::empty();
     let _ = judge(&mut graph, n, rows);
     graph
 }
 
-pub fn levels<const N: usize>(values: [u16; N]) -> [Level; N] {
+pub(crate) fn levels<const N: usize>(values: [u16; N]) -> [Level; N] {
     let mut weights = [Level::new(0); N];
     for (i, value) in values.iter().enumerate() {
         weights[i] = Level::new(*value);
@@ -46,7 +46,7 @@ pub fn levels<const N: usize>(values: [u16; N]) -> [Level; N] {
     weights
 }
 
-pub fn presences<const N: usize>(values: [u8; N]) -> [Presence; N] {
+pub(crate) fn presences<const N: usize>(values: [u8; N]) -> [Presence; N] {
     let mut weights = [Presence::Absent; N];
     for (i, value) in values.iter().enumerate() {
         if *value == 1 {
@@ -57,27 +57,27 @@ pub fn presences<const N: usize>(values: [u8; N]) -> [Presence; N] {
 }
 
 // Levels on the path.
-pub fn path_levels(vertices: [u16; 5], edges: [u16; 4]) -> ([Level; 5], [Level; 4]) {
+pub(crate) fn path_levels(vertices: [u16; 5], edges: [u16; 4]) -> ([Level; 5], [Level; 4]) {
     (levels(vertices), levels(edges))
 }
 
 // Presences on the path.
-pub fn path_presences(vertices: [u8; 5], edges: [u8; 4]) -> ([Presence; 5], [Presence; 4]) {
+pub(crate) fn path_presences(vertices: [u8; 5], edges: [u8; 4]) -> ([Presence; 5], [Presence; 4]) {
     (presences(vertices), presences(edges))
 }
 
 // The number, the place and the part of an answer: a 0 and no part where the call is accepted.
 pub const ACCEPTED: (u8, usize, Option<Part>) = (0, 0, None);
 
-pub fn refused(number: u8, place: usize, part: Part) -> (u8, usize, Option<Part>) {
+pub(crate) fn refused(number: u8, place: usize, part: Part) -> (u8, usize, Option<Part>) {
     (number, place, Some(part))
 }
 
-pub fn report(refusal: Refusal) -> (u8, usize, Option<Part>) {
+pub(crate) fn report(refusal: Refusal) -> (u8, usize, Option<Part>) {
     (refusal.number(), refusal.place(), Some(refusal.part()))
 }
 
-pub fn outcome(answer: Result<(), Refusal>) -> (u8, usize, Option<Part>) {
+pub(crate) fn outcome(answer: Result<(), Refusal>) -> (u8, usize, Option<Part>) {
     match answer {
         Ok(()) => ACCEPTED,
         Err(refusal) => report(refusal),
