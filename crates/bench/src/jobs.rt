@@ -4,22 +4,11 @@ use crate::meshes::Mesh;
 use anyhow::anyhow;
 use filters::{Family, Filter};
 
-/// The call of a sheet that is measured.
-#[derive(Clone, Copy)]
-pub enum Task {
-    /// The weights from records, those of the edges being absent.
-    Open,
-    /// One filter of the weights.
-    Step(Filter),
-    /// The records of the weights.
-    Close,
-}
-
-/// A task to be done on a mesh so many times.
+/// A filter to be run on a mesh so many times.
 #[derive(Clone, Copy)]
 pub struct Job {
     pub mesh: Mesh,
-    pub task: Task,
+    pub filter: Filter,
     pub repeat: u64,
 }
 
@@ -39,15 +28,17 @@ impl Job {
 
     /// Reads the arguments after those of the mesh.
     fn on(mesh: Mesh, words: &[String]) -> anyhow::Result<Job> {
-        let (task, repeat) = match words {
-            [task, repeat] => (parse_end(task.as_str())?, repeat),
-            [letter, size, repeat] => (parse_step(letter.as_str(), size.as_str())?, repeat),
-            _ => return Err(anyhow!(
-                "the arguments end with: open, close or LETTER SIZE, and REPEAT"
-            )),
+        let [letter, size, repeat] = words else {
+            return Err(anyhow!("the arguments end with: LETTER SIZE REPEAT"));
         };
+        let family = parse_family(letter.as_str())?;
+        let size = parse_size(size.as_str())?;
         let repeat = parse_repeat(repeat.as_str())?;
-        Ok(Job { mesh, task, repeat })
+        Ok(Job {
+            mesh,
+            filter: Filter { family, size },
+            repeat,
+        })
     }
 }
 
@@ -70,21 +61,6 @@ fn parse_random(n: &str, m: &str, seed: &str) -> anyhow::Result<Mesh> {
             "N is 2 to 1000000, and M at most 4000000 and at most a quarter of N * (N - 1)"
         )),
     }
-}
-
-/// The task at one of the ends of a sheet's life.
-fn parse_end(word: &str) -> anyhow::Result<Task> {
-    match word {
-        "open" => Ok(Task::Open),
-        "close" => Ok(Task::Close),
-        _ => Err(anyhow!("a task of one word is open or close")),
-    }
-}
-
-fn parse_step(letter: &str, size: &str) -> anyhow::Result<Task> {
-    let family = parse_family(letter)?;
-    let size = parse_size(size)?;
-    Ok(Task::Step(Filter { family, size }))
 }
 
 fn parse_family(letter: &str) -> anyhow::Result<Family> {

@@ -1,7 +1,6 @@
-//! The weights to measure with, and their records.
+//! The weights to measure with.
 
 use crate::generator::Generator;
-use filters::fill;
 use graph::Edge;
 use lattice::{Kind, Level};
 use std::alloc::Global;
@@ -38,12 +37,6 @@ impl Buffers {
         Ok(Buffers { vertices, edges })
     }
 
-    /// Makes all weights lowest.
-    pub(crate) fn clear(&mut self) {
-        fill(self.vertices.as_mut_slice(), Level::lowest());
-        fill(self.edges.as_mut_slice(), Level::lowest());
-    }
-
     /// Makes the weights those of the other.
     pub(crate) fn copy_from(&mut self, other: &Buffers) -> anyhow::Result<()> {
         self.vertices.clear();
@@ -53,9 +46,10 @@ impl Buffers {
         Ok(())
     }
 
-    /// The checksum of the weights: that of their records.
-    pub(crate) fn checksum(&self, heap: Global) -> anyhow::Result<u64> {
-        Ok(Records::of(heap, self)?.checksum())
+    /// The 64-bit FNV-1a hash of the weights of the vertices and then of the edges, two bytes each, the low one first.
+    pub(crate) fn checksum(&self) -> u64 {
+        let hash = hash_on(14695981039346656037, self.vertices.as_slice());
+        hash_on(hash, self.edges.as_slice())
     }
 }
 
@@ -67,49 +61,13 @@ fn at(vertices: &[Level], vertex: u32) -> Level {
     }
 }
 
-/// The records of the weights of a graph.
-#[derive(Drop)]
-pub struct Records {
-    pub vertices: Vec<u8>,
-    pub edges: Vec<u8>,
-}
-
-impl Records {
-    /// The records of weights, written byte by byte.
-    pub(crate) fn of(heap: Global, weights: &Buffers) -> anyhow::Result<Records> {
-        Ok(Records {
-            vertices: bytes_of(heap, weights.vertices.as_slice())?,
-            edges: bytes_of(heap, weights.edges.as_slice())?,
-        })
-    }
-
-    /// Makes all bytes 0.
-    pub(crate) fn clear(&mut self) {
-        fill(self.vertices.as_mut_slice(), 0);
-        fill(self.edges.as_mut_slice(), 0);
-    }
-
-    /// The 64-bit FNV-1a hash of the records of the vertices and then of the edges.
-    pub(crate) fn checksum(&self) -> u64 {
-        let hash = hash_on(14695981039346656037, self.vertices.as_slice());
-        hash_on(hash, self.edges.as_slice())
-    }
-}
-
-/// Two bytes for each weight, the low one first.
-fn bytes_of(heap: Global, weights: &[Level]) -> anyhow::Result<Vec<u8>> {
-    let mut bytes = Vec::new(heap);
-    for weight in weights {
-        bytes.extend_from_slice(&weight.value().to_le_bytes())?;
-    }
-    Ok(bytes)
-}
-
-/// The hash after these bytes, from the hash before them.
-fn hash_on(hash: u64, bytes: &[u8]) -> u64 {
+/// The hash after these weights, from the hash before them.
+fn hash_on(hash: u64, weights: &[Level]) -> u64 {
     let mut hash = hash;
-    for byte in bytes {
-        hash = (hash ^ u64::from(*byte)).wrapping_mul(1099511628211);
+    for weight in weights {
+        let [low, high] = weight.value().to_le_bytes();
+        hash = (hash ^ u64::from(low)).wrapping_mul(1099511628211);
+        hash = (hash ^ u64::from(high)).wrapping_mul(1099511628211);
     }
     hash
 }

@@ -94,38 +94,6 @@ fn draw(
     Ok(())
 }
 
-/// Turns how many there are of each number into how many there are of smaller ones.
-fn sum_up(counts: &mut [usize]) {
-    let mut sum: usize = 0;
-    for count in counts.iter_mut() {
-        let here = *count;
-        *count = sum;
-        sum = sum.wrapping_add(here);
-    }
-}
-
-/// The pairs, turned around, by rising second number, those with the same one in their old order. All numbers are below `n`. Done
-/// twice it sorts the pairs, in time linear in how many they are.
-fn turn(heap: Global, n: u32, pairs: &[(u32, u32)]) -> anyhow::Result<Vec<(u32, u32)>> {
-    let mut places = vec![in heap; 0usize; n as usize]?;
-    for (_, second) in pairs {
-        if let Some(count) = places.get_mut(*second as usize) {
-            *count = count.wrapping_add(1);
-        }
-    }
-    sum_up(places.as_mut_slice());
-    let mut turned = vec![in heap; (0u32, 0u32); pairs.len()]?;
-    for (first, second) in pairs {
-        if let Some(place) = places.get_mut(*second as usize) {
-            if let Some(pair) = turned.get_mut(*place) {
-                *pair = (*second, *first);
-            }
-            *place = place.wrapping_add(1);
-        }
-    }
-    Ok(turned)
-}
-
 /// So many distinct edges by the generator, sorted.
 fn random(heap: Global, n: u32, m: usize, seed: u64) -> anyhow::Result<Vec<Edge>> {
     let mut generator = Generator::new(seed);
@@ -135,8 +103,7 @@ fn random(heap: Global, n: u32, m: usize, seed: u64) -> anyhow::Result<Vec<Edge>
             break;
         }
         draw(&mut pairs, &mut generator, n, m)?;
-        let turned = turn(heap, n, pairs.as_slice())?;
-        pairs = turn(heap, n, turned.as_slice())?;
+        pairs.sort();
         pairs.dedup();
     }
     let mut edges = Vec::new(heap);

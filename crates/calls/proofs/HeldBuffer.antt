@@ -4,7 +4,7 @@ use mathlib.Core.Bool.{false≢true}
 use Rattle.lattice.specs.Lattices.{Operations}
 use Rattle.graph.specs.Shapes.{Shape}
 use Rattle.filters.specs.Weightings.{Weighting, weighting, blank, filtered}
-use Rattle.recipe.specs.Legal.{completes, Legal}
+use Rattle.recipe.specs.Legal.{fits, Legal}
 use Rattle.recipe.specs.declared.turns.Turn.{Turn}
 use Rattle.recipe.specs.declared.turns.Turn.TheVariants.{Free, Held}
 use Rattle.recipe.specs.declared.words.Word.{Word}
@@ -17,7 +17,7 @@ in_turn Free h = nothing
 in_turn Held h = something h
 
 module _ {K : Type 0} (k : Operations K) (g : Shape) where
-  buffer_done : (t : Turn) (ws : List Word) (w h : Weighting K) → completes t ws ≡ true → (words_done k g ws (pair w h)).weights ≡ done k g ws w (in_turn t h)
+  buffer_done : (t : Turn) (ws : List Word) (w h : Weighting K) → fits t ws ≡ true → (words_done k g ws (pair w h)).weights ≡ done k g ws w (in_turn t h)
   buffer_done t [] w h f = refl
   buffer_done Free (Step x ∷ ws) w h f = buffer_done Free ws (filtered k g x w) h f
   buffer_done Free (Hold ∷ ws) w h f = buffer_done Held ws w w f

@@ -11,7 +11,7 @@ ghost use Rattle.stories.specs.Words.{pair, word_done, words_done, nothing, done
 
 use crate::progress::Progress;
 use crate::releases::{combine, make_lowest};
-use filters::{Joins, Meets, WeightsMut, both_fit, fits};
+use filters::{Joins, Meets, WeightsMut, fits};
 use graph::Graph;
 use lattice::Kind;
 use recipe::{Recipe, Word};
@@ -30,13 +30,7 @@ fn all_fit<K>(
     ensures { result ≡ (fits (shape_of graph.now) (weighting vertices.now edges.now) && (fits (shape_of graph.now) (weighting vertex_scratch.now edge_scratch.now) && fits (shape_of graph.now) (weighting held_vertices.now held_edges.now))) }
 {
     fits(graph, vertices, edges)
-        && both_fit(
-            graph,
-            vertex_scratch,
-            edge_scratch,
-            held_vertices,
-            held_edges,
-        )
+        && (fits(graph, vertex_scratch, edge_scratch) && fits(graph, held_vertices, held_edges))
 }
 
 /// Does one word.

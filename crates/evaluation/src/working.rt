@@ -48,9 +48,9 @@ fn work<K: Stored, P: Progress>(
     requires edge_scratch { length edge_scratch.old ≡ length graph.now.edges.now }
     requires held_vertices { length held_vertices.old ≡ graph.now.n }
     requires held_edges { length held_edges.old ≡ length graph.now.edges.now }
-    requires vertex_records { length vertex_records.old ≡ graph.now.n * K.Stored.width }
-    requires edge_records { length edge_records.old ≡ length graph.now.edges.now * K.Stored.width }
-    ensures { Counts (evaluated_on (stored_kind K.Kind.operations K.Kind.leq K.Stored.width K.Stored.parsed K.Stored.written) (shape_of graph.now) (input job.entry)) (shape_of graph.now) (bytes_of_both vertex_records.new edge_records.new) result }
+    requires vertex_records { length vertex_records.old ≡ graph.now.n * K.Stored.size }
+    requires edge_records { length edge_records.old ≡ length graph.now.edges.now * K.Stored.size }
+    ensures { Counts (evaluated_on (stored_kind K.Kind.operations K.Kind.leq K.Stored.size K.Stored.parsed K.Stored.written) (shape_of graph.now) (input job.entry)) (shape_of graph.now) (bytes_of_both vertex_records.new edge_records.new) result }
 {
     let sheet = Sheet::open(
         graph,
@@ -83,9 +83,9 @@ fn work_in_memory<K: Stored, P: Progress>(
     edge_records: &mut [u8],
     progress: &mut P,
 ) -> Result<usize, Failure>
-    requires vertex_records { length vertex_records.old ≡ graph.now.n * K.Stored.width }
-    requires edge_records { length edge_records.old ≡ length graph.now.edges.now * K.Stored.width }
-    ensures { CountsInMemory (evaluated_on (stored_kind K.Kind.operations K.Kind.leq K.Stored.width K.Stored.parsed K.Stored.written) (shape_of graph.now) (input job.entry)) (shape_of graph.now) (bytes_of_both vertex_records.new edge_records.new) result }
+    requires vertex_records { length vertex_records.old ≡ graph.now.n * K.Stored.size }
+    requires edge_records { length edge_records.old ≡ length graph.now.edges.now * K.Stored.size }
+    ensures { CountsInMemory (evaluated_on (stored_kind K.Kind.operations K.Kind.leq K.Stored.size K.Stored.parsed K.Stored.written) (shape_of graph.now) (input job.entry)) (shape_of graph.now) (bytes_of_both vertex_records.new edge_records.new) result }
 {
     let n = graph.order();
     let m = graph.edges().len();
@@ -118,13 +118,13 @@ pub(crate) fn evaluate_on<K: Stored, P: Progress>(
     job: Job<'_>,
     progress: &mut P,
 ) -> Result<Evaluated, Failure>
-    ensures records { Gives (evaluated_on (stored_kind K.Kind.operations K.Kind.leq K.Stored.width K.Stored.parsed K.Stored.written) (shape_of graph.now) (input job.entry)) result }
-    ensures sizes { IfOk result (λ e. Sized K.Stored.width e) }
+    ensures records { Gives (evaluated_on (stored_kind K.Kind.operations K.Kind.leq K.Stored.size K.Stored.parsed K.Stored.written) (shape_of graph.now) (input job.entry)) result }
+    ensures sizes { IfOk result (λ e. Sized K.Stored.size e) }
 {
     let vertices = graph.order();
     let edges = graph.edges().len();
-    let mut vertex_records = vec![in heap; 0; vertices * K::record_width()]?;
-    let mut edge_records = vec![in heap; 0; edges * K::record_width()]?;
+    let mut vertex_records = vec![in heap; 0; vertices * K::record_size()]?;
+    let mut edge_records = vec![in heap; 0; edges * K::record_size()]?;
     let words = work_in_memory::<K, P>(
         heap,
         graph,

@@ -6,7 +6,7 @@ use Rattle.refusal.specs.declared.Refusal.{Refusal}
 use Rattle.refusal.specs.declared.Part.TheVariants as part
 use Rattle.graph.specs.Files.{file_records}
 use Rattle.graph.specs.Graphs.{AllWithin, Rising, Sound}
-use Rattle.graph.specs.Rules.{Rule, ends_rise, end_in_range, above_last, rule_number, Keeps, Faulty, CountsFit, TooLarge, Judged, Whole, FileJudged}
+use Rattle.graph.specs.Rules.{Rule, ends_rise, end_in_range, above_last, number, Keeps, Faulty, CountsFit, TooLarge, Judged, Whole, FileJudged}
 use Rattle.graph.specs.Verdicts.{large, records_verdict, verdict, file_verdict}
 use Rattle.graph.specs.declared.edges.Edge.{Edge}
 use Rattle.graph.proofs.Faults.{rightly, wrongly, answered}
@@ -26,22 +26,22 @@ sound_clear n es sound i ends_rise l = λ d. (sound.within i d l).0
 sound_clear n es sound i end_in_range l = λ d. (sound.within i d l).1
 sound_clear n es sound i above_last l = λ j d same. let next = sound.rising j d (omega arith) in rw same at next
 
-rule_number_same : (r s : Rule) → rule_number r ≡ rule_number s → r ≡ s
-rule_number_same ends_rise ends_rise e = refl
-rule_number_same ends_rise end_in_range e = absurd (omega arith)
-rule_number_same ends_rise above_last e = absurd (omega arith)
-rule_number_same end_in_range ends_rise e = absurd (omega arith)
-rule_number_same end_in_range end_in_range e = refl
-rule_number_same end_in_range above_last e = absurd (omega arith)
-rule_number_same above_last ends_rise e = absurd (omega arith)
-rule_number_same above_last end_in_range e = absurd (omega arith)
-rule_number_same above_last above_last e = refl
+number_same : (r s : Rule) → number r ≡ number s → r ≡ s
+number_same ends_rise ends_rise e = refl
+number_same ends_rise end_in_range e = absurd (omega arith)
+number_same ends_rise above_last e = absurd (omega arith)
+number_same end_in_range ends_rise e = absurd (omega arith)
+number_same end_in_range end_in_range e = refl
+number_same end_in_range above_last e = absurd (omega arith)
+number_same above_last ends_rise e = absurd (omega arith)
+number_same above_last end_in_range e = absurd (omega arith)
+number_same above_last above_last e = refl
 
 -- there is one first fault
 not_earlier : (n : ℕ) (es : List Edge) (j k : ℕ) (r s : Rule) → Faulty n es j r → Faulty n es k s → j < k → ⊥
 not_earlier n es j k r s f g l = f.broken (g.records_before j r l)
 
-not_lower : (n : ℕ) (es : List Edge) (k : ℕ) (r s : Rule) → Faulty n es k r → Faulty n es k s → rule_number r < rule_number s → ⊥
+not_lower : (n : ℕ) (es : List Edge) (k : ℕ) (r s : Rule) → Faulty n es k r → Faulty n es k s → number r < number s → ⊥
 not_lower n es k r s f g l = f.broken (g.rules_before r l)
 
 same_place : (n : ℕ) (es : List Edge) (j k : ℕ) (r s : Rule) → Faulty n es j r → Faulty n es k s → j ≡ k
@@ -56,16 +56,16 @@ same_place n es j k r s f g =
 
 same_rule : (n : ℕ) (es : List Edge) (k : ℕ) (r s : Rule) → Faulty n es k r → Faulty n es k s → r ≡ s
 same_rule n es k r s f g =
-    elim (leb_tells (rule_number r) (rule_number s)) [
+    elim (leb_tells (number r) (number s)) [
       | inr t ↦ absurd (not_lower n es k s r g f t.1)
-      | inl t ↦ elim (leb_tells (rule_number s) (rule_number r)) [
+      | inl t ↦ elim (leb_tells (number s) (number r)) [
         | inr u ↦ absurd (not_lower n es k r s f g u.1)
-        | inl u ↦ rule_number_same r s (omega (arith, t.1, u.1))
+        | inl u ↦ number_same r s (omega (arith, t.1, u.1))
       ]
     ]
 
 -- the rules for a single record have the numbers from 4 on
-from_four : (r : Rule) → 3 < rule_number r
+from_four : (r : Rule) → 3 < number r
 from_four ends_rise = omega arith
 from_four end_in_range = omega arith
 from_four above_last = omega arith
@@ -79,22 +79,22 @@ records_accept n es =
     ]
 
 -- it refuses exactly by the first fault
-records_refuse : (n : ℕ) (es : List Edge) (k : ℕ) (rule : Rule) → (records_verdict n 0 None es ≡ refused (rule_number rule) k part.Graph) ↔ (Faulty n es k rule)
+records_refuse : (n : ℕ) (es : List Edge) (k : ℕ) (rule : Rule) → (records_verdict n 0 None es ≡ refused (number rule) k part.Graph) ↔ (Faulty n es k rule)
 records_refuse n es k rule =
     elim (answered n es) [
       | rightly clear said ↦ (λ h. let z : ◌≡◌ {A = ℕ} 0 1 = cc in absurd (omega arith), λ fault. absurd (fault.broken (clear k rule fault.present)))
       | wrongly j r fault said ↦ (
         λ h.
             let place : j ≡ k = cc in
-            let by : rule_number r ≡ rule_number rule = cc in
+            let by : number r ≡ number rule = cc in
             let P : ℕ → Type 0 = λ i. Faulty n es i rule in
             let Q : Rule → Type 0 = λ s. Faulty n es j s in
-            subst P place (subst Q (rule_number_same r rule by) fault),
+            subst P place (subst Q (number_same r rule by) fault),
         λ found.
             let place = same_place n es j k r rule fault found in
             let P : ℕ → Type 0 = λ i. Faulty n es i r in
             let by = same_rule n es k r rule (subst P place fault) found in
-            said ∙ ap (λ s. refused (rule_number s) j part.Graph) by ∙ ap (λ i. refused (rule_number rule) i part.Graph) place,
+            said ∙ ap (λ s. refused (number s) j part.Graph) by ∙ ap (λ i. refused (number rule) i part.Graph) place,
       )
     ]
 
@@ -103,7 +103,7 @@ records_otherwise : (n : ℕ) (es : List Edge) (other : ℕ) → other < 4 → r
 records_otherwise n es other l h =
     elim (answered n es) [
       | rightly clear said ↦ let z : ◌≡◌ {A = ℕ} 0 1 = cc in omega arith
-      | wrongly k rule fault said ↦ let by : rule_number rule ≡ other = cc in omega (arith, from_four rule)
+      | wrongly k rule fault said ↦ let by : number rule ≡ other = cc in omega (arith, from_four rule)
     ]
 
 size : (n m : ℕ) → ((large n m ≡ true) × TooLarge n m) ⊎ ((large n m ≡ false) × CountsFit n m)
@@ -124,7 +124,7 @@ judged_large : (n : ℕ) (es : List Edge) (a : Verdict) → TooLarge n (length e
 judged_large n es a large said = record {
   accepts = (λ h. let z : ◌≡◌ {A = ℕ} 0 1 = cc in absurd (omega arith), λ sound. absurd (not_both n (length es) (sound.few, sound.short) large));
   counts = (λ h. large, λ h. said);
-  records = λ k rule. (λ h. let by : rule_number rule ≡ 2 = cc in absurd (omega (arith, from_four rule)), λ found. absurd (not_both n (length es) found.0 large));
+  records = λ k rule. (λ h. let by : number rule ≡ 2 = cc in absurd (omega (arith, from_four rule)), λ found. absurd (not_both n (length es) found.0 large));
 }
 
 judged_records : (n : ℕ) (es : List Edge) (a : Verdict) → CountsFit n (length es) → a ≡ records_verdict n 0 None es → Judged n es a
@@ -158,8 +158,8 @@ not_accepted i k h = let z : ◌≡◌ {A = ℕ} 0 1 = cc in omega arith
 other_number : (i j k l : ℕ) → ◌≡◌ {A = Verdict} (refused i k part.Graph) (refused j l part.Graph) → (i ≡ j → ⊥) → ⊥
 other_number i j k l h differ = differ (cc)
 
-other_rule : (i k : ℕ) (rule : Rule) → i < 4 → ◌≡◌ {A = Verdict} (refused i 0 part.Graph) (refused (rule_number rule) k part.Graph) → ⊥
-other_rule i k rule low h = let by : i ≡ rule_number rule = cc in omega (arith, from_four rule)
+other_rule : (i k : ℕ) (rule : Rule) → i < 4 → ◌≡◌ {A = Verdict} (refused i 0 part.Graph) (refused (number rule) k part.Graph) → ⊥
+other_rule i k rule low h = let by : i ≡ number rule = cc in omega (arith, from_four rule)
 
 file_partial : (n : ℕ) (bytes : List ℕ) (room : ℕ) → (Whole bytes → ⊥) → FileJudged n bytes room (refused 1 0 part.Graph)
 file_partial n bytes room broken = record {

@@ -4,7 +4,7 @@ use Rattle.std.proofs.lemmas.List.{get_or_default, drop_all}
 use Rattle.std.proofs.lemmas.Bool.Decides.{leb_tells}
 use Rattle.refusal.specs.Reports.{accepted, refused, Verdict}
 use Rattle.refusal.specs.declared.Part.TheVariants as part
-use Rattle.graph.specs.Rules.{Rule, ends_rise, end_in_range, above_last, rule_number, Keeps, Faulty}
+use Rattle.graph.specs.Rules.{Rule, ends_rise, end_in_range, above_last, number, Keeps, Faulty}
 use Rattle.graph.specs.Verdicts.{above, record_verdict, records_verdict}
 use Rattle.graph.specs.declared.edges.Edge.{Edge}
 use Rattle.graph.proofs.Loops.{records_more}
@@ -38,24 +38,24 @@ breaks_above n es (suc j) h keeps =
 -- what record k keeps or breaks, with what is answered to it
 data Outcome (n : ℕ) (es : List Edge) (k : ℕ) (a : Verdict) : Type 0 where
   keeping : ((r : Rule) → Keeps n es k r) → a ≡ accepted tt → Outcome n es k a
-  breaking : (rule : Rule) → ((r : Rule) → rule_number r < rule_number rule → Keeps n es k r) → (Keeps n es k rule → ⊥) → a ≡ refused (rule_number rule) k part.Graph → Outcome n es k a
+  breaking : (rule : Rule) → ((r : Rule) → number r < number rule → Keeps n es k r) → (Keeps n es k rule → ⊥) → a ≡ refused (number rule) k part.Graph → Outcome n es k a
 
 every : (n : ℕ) (es : List Edge) (k : ℕ) → Keeps n es k ends_rise → Keeps n es k end_in_range → Keeps n es k above_last → (r : Rule) → Keeps n es k r
 every n es k p q s ends_rise = p
 every n es k p q s end_in_range = q
 every n es k p q s above_last = s
 
-none_before : (n : ℕ) (es : List Edge) (k : ℕ) (r : Rule) → rule_number r < 4 → Keeps n es k r
+none_before : (n : ℕ) (es : List Edge) (k : ℕ) (r : Rule) → number r < 4 → Keeps n es k r
 none_before n es k ends_rise l = absurd (omega arith)
 none_before n es k end_in_range l = absurd (omega arith)
 none_before n es k above_last l = absurd (omega arith)
 
-one_before : (n : ℕ) (es : List Edge) (k : ℕ) → Keeps n es k ends_rise → (r : Rule) → rule_number r < 5 → Keeps n es k r
+one_before : (n : ℕ) (es : List Edge) (k : ℕ) → Keeps n es k ends_rise → (r : Rule) → number r < 5 → Keeps n es k r
 one_before n es k p ends_rise l = p
 one_before n es k p end_in_range l = absurd (omega arith)
 one_before n es k p above_last l = absurd (omega arith)
 
-two_before : (n : ℕ) (es : List Edge) (k : ℕ) → Keeps n es k ends_rise → Keeps n es k end_in_range → (r : Rule) → rule_number r < 6 → Keeps n es k r
+two_before : (n : ℕ) (es : List Edge) (k : ℕ) → Keeps n es k ends_rise → Keeps n es k end_in_range → (r : Rule) → number r < 6 → Keeps n es k r
 two_before n es k p q ends_rise l = p
 two_before n es k p q end_in_range l = q
 two_before n es k p q above_last l = absurd (omega arith)
@@ -81,7 +81,7 @@ outcome n es k l =
 -- what the first m records keep or break, with what is answered to all of them
 data Settled (n : ℕ) (es : List Edge) (m : ℕ) (rest : Verdict) (a : Verdict) : Type 0 where
   clear : ((i : ℕ) (r : Rule) → i < m → Keeps n es i r) → rest ≡ a → Settled n es m rest a
-  faulty : (k : ℕ) (rule : Rule) → Faulty n es k rule → a ≡ refused (rule_number rule) k part.Graph → Settled n es m rest a
+  faulty : (k : ℕ) (rule : Rule) → Faulty n es k rule → a ≡ refused (number rule) k part.Graph → Settled n es m rest a
 
 abbrev rest : ℕ → List Edge → ℕ → Verdict
 rest n es m = records_verdict n m (previous es m) (drop m es)
@@ -104,7 +104,7 @@ settle n es (suc m) l =
                 clear (below_suc n es m lower here) (rw add-one at next)
             | breaking rule earlier broken err ↦
                 let fault : Faulty n es m rule = record { present = in_es; records_before = lower; rules_before = earlier; broken = broken } in
-                let next = records_more n m (previous es m) es e (refused (rule_number rule) m part.Graph) whole in_es (get_or_default es m blank e in_es) (sym err) said in
+                let next = records_more n m (previous es m) es e (refused (number rule) m part.Graph) whole in_es (get_or_default es m blank e in_es) (sym err) said in
                 faulty m rule fault (sym next)
           ]
     ]
@@ -112,7 +112,7 @@ settle n es (suc m) l =
 -- the records are as the rules ask, and are accepted; or the first fault is answered
 pub data Answered (n : ℕ) (es : List Edge) (a : Verdict) : Type 0 where
   rightly : ((i : ℕ) (r : Rule) → i < length es → Keeps n es i r) → a ≡ accepted tt → Answered n es a
-  wrongly : (k : ℕ) (rule : Rule) → Faulty n es k rule → a ≡ refused (rule_number rule) k part.Graph → Answered n es a
+  wrongly : (k : ℕ) (rule : Rule) → Faulty n es k rule → a ≡ refused (number rule) k part.Graph → Answered n es a
 
 pub answered : (n : ℕ) (es : List Edge) → Answered n es (records_verdict n 0 None es)
 answered n es =

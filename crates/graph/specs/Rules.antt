@@ -13,10 +13,10 @@ pub data Rule : Type 0 where
   above_last : Rule
 
 -- the number under which a rule is refused
-abbrev pub rule_number : Rule → ℕ
-rule_number ends_rise = 4
-rule_number end_in_range = 5
-rule_number above_last = 6
+abbrev pub number : Rule → ℕ
+number ends_rise = 4
+number end_in_range = 5
+number above_last = 6
 
 -- record k keeps the rule; the default d plays no part
 abbrev pub Keeps : ℕ → List Edge → ℕ → Rule → Type 0
@@ -28,7 +28,7 @@ Keeps n es k above_last = (i : ℕ) (d : Edge) → i + 1 ≡ k → before (slice
 pub record Faulty (n : ℕ) (es : List Edge) (k : ℕ) (rule : Rule) : Type 0 where
   pub present : k < length es
   pub records_before : (i : ℕ) (r : Rule) → i < k → Keeps n es i r
-  pub rules_before : (r : Rule) → rule_number r < rule_number rule → Keeps n es k r
+  pub rules_before : (r : Rule) → number r < number rule → Keeps n es k r
   pub broken : Keeps n es k rule → ⊥
 
 -- there are not too many vertices, nor too many edges
@@ -43,7 +43,7 @@ TooLarge n m = (1000000 < n) ⊎ (4000000 < m)
 pub record Judged (n : ℕ) (es : List Edge) (a : Verdict) : Type 0 where
   pub accepts : (a ≡ accepted tt) ↔ (Sound n es)
   pub counts : (a ≡ refused 2 0 part.Graph) ↔ (TooLarge n (length es))
-  pub records : (k : ℕ) (rule : Rule) → (a ≡ refused (rule_number rule) k part.Graph) ↔ (CountsFit n (length es) × Faulty n es k rule)
+  pub records : (k : ℕ) (rule : Rule) → (a ≡ refused (number rule) k part.Graph) ↔ (CountsFit n (length es) × Faulty n es k rule)
 
 -- the bytes are whole records
 abbrev pub Whole : List ℕ → Type 0
@@ -55,4 +55,4 @@ pub record FileJudged (n : ℕ) (bytes : List ℕ) (room : ℕ) (a : Verdict) : 
   pub partial : (a ≡ refused 1 0 part.Graph) ↔ (Whole bytes → ⊥)
   pub counts : (a ≡ refused 2 0 part.Graph) ↔ (Whole bytes × TooLarge n (length (file_records bytes)))
   pub table : (a ≡ refused 3 0 part.Graph) ↔ (Whole bytes × CountsFit n (length (file_records bytes)) × (room ≢ length (file_records bytes)))
-  pub records : (k : ℕ) (rule : Rule) → (a ≡ refused (rule_number rule) k part.Graph) ↔ (Whole bytes × CountsFit n (length (file_records bytes)) × (room ≡ length (file_records bytes)) × Faulty n (file_records bytes) k rule)
+  pub records : (k : ℕ) (rule : Rule) → (a ≡ refused (number rule) k part.Graph) ↔ (Whole bytes × CountsFit n (length (file_records bytes)) × (room ≡ length (file_records bytes)) × Faulty n (file_records bytes) k rule)

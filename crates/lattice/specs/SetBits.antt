@@ -18,17 +18,17 @@ low_or a b = omega (arith, or_step a b)
 low_and : (a b : ℕ) → bit_and a b % 2 ≡ min (a % 2) (b % 2)
 low_and a b = omega (arith, and_step a b)
 
-bit_bit_or : (k a b : ℕ) → bit k (bit_or a b) ≡ max (bit k a) (bit k b)
-bit_bit_or k a b = ap (λ n. n % 2) (or_shr a b k) ∙ low_or (a / 2 ^ k) (b / 2 ^ k)
+bit-bit_or : (k a b : ℕ) → bit k (bit_or a b) ≡ max (bit k a) (bit k b)
+bit-bit_or k a b = ap (λ n. n % 2) (or_shr a b k) ∙ low_or (a / 2 ^ k) (b / 2 ^ k)
 
-bit_bit_and : (k a b : ℕ) → bit k (bit_and a b) ≡ min (bit k a) (bit k b)
-bit_bit_and k a b = ap (λ n. n % 2) (and_shr a b k) ∙ low_and (a / 2 ^ k) (b / 2 ^ k)
+bit-bit_and : (k a b : ℕ) → bit k (bit_and a b) ≡ min (bit k a) (bit k b)
+bit-bit_and k a b = ap (λ n. n % 2) (and_shr a b k) ∙ low_and (a / 2 ^ k) (b / 2 ^ k)
 
 pub is_in_or : (k a b : ℕ) → is_in k (bit_or a b) ≡ (is_in k a || is_in k b)
-is_in_or k a b = let e = bit_bit_or k a b in grind (arith, nat_tests)
+is_in_or k a b = let e = bit-bit_or k a b in grind (arith, nat_tests)
 
 pub is_in_and : (k a b : ℕ) → is_in k (bit_and a b) ≡ (is_in k a && is_in k b)
-is_in_and k a b = let e = bit_bit_and k a b in grind (arith, nat_tests)
+is_in_and k a b = let e = bit-bit_and k a b in grind (arith, nat_tests)
 
 -- a number of w bits is known by them
 same_bits : (w a b : ℕ) → a < 2 ^ w → b < 2 ^ w → ((k : ℕ) → k < w → bit k a ≡ bit k b) → a ≡ b

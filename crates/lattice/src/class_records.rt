@@ -13,7 +13,7 @@ use crate::records::Stored;
 impl Stored for Classes {
     const WIDTH: usize = 4;
 
-    ghost width = { 4 };
+    ghost size = { 4 };
 
     ghost parsed = { parsed_classes };
 
@@ -27,7 +27,7 @@ impl Stored for Classes {
 
     ghost whole = { first_of (Prim.search rules, Prim.grind (arith, Self.row.coded.inj)) };
 
-    fn record_width() -> usize
+    fn record_size() -> usize
         ensures { result ≡ 4 }
     {
         Self::WIDTH

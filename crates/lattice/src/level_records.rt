@@ -13,7 +13,7 @@ use crate::records::Stored;
 impl Stored for Level {
     const WIDTH: usize = 2;
 
-    ghost width = { 2 };
+    ghost size = { 2 };
 
     ghost parsed = { parsed_level };
 
@@ -27,7 +27,7 @@ impl Stored for Level {
 
     ghost whole = { first_of (Prim.search rules, Prim.grind (arith, Self.row.coded.inj)) };
 
-    fn record_width() -> usize
+    fn record_size() -> usize
         ensures { result ≡ 2 }
     {
         Self::WIDTH

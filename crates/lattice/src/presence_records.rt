@@ -12,7 +12,7 @@ use crate::records::Stored;
 impl Stored for Presence {
     const WIDTH: usize = 1;
 
-    ghost width = { 1 };
+    ghost size = { 1 };
 
     ghost parsed = { parsed_presence };
 
@@ -26,7 +26,7 @@ impl Stored for Presence {
 
     ghost whole = { Prim.search rules };
 
-    fn record_width() -> usize
+    fn record_size() -> usize
         ensures { result ≡ 1 }
     {
         Self::WIDTH

@@ -11,7 +11,7 @@ pub trait Stored: Kind {
     const WIDTH: usize;
 
     /// How many bytes a record has.
-    ghost width: { ℕ };
+    ghost size: { ℕ };
 
     /// The value that bytes stand for, where they stand for one.
     ghost parsed: { List ℕ → Option Self };
@@ -20,8 +20,8 @@ pub trait Stored: Kind {
     ghost written: { Self → List ℕ };
 
     /// How many bytes a record has, as [`Stored::WIDTH`]. Generic code calls this, since a constant promises nothing.
-    fn record_width() -> usize
-        ensures { result ≡ width };
+    fn record_size() -> usize
+        ensures { result ≡ size };
 
     /// The value that the bytes stand for. Bytes of another length than a record's stand for none.
     fn decode(bytes: &[u8]) -> Option<Self>
@@ -30,14 +30,14 @@ pub trait Stored: Kind {
     /// Writes the record of this value to the bytes and answers yes. Bytes of another length than a record's are left as they
     /// are, and the answer is no.
     fn encode(self, bytes: &mut [u8]) -> bool
-        ensures fits { result ≡ (length bytes.old == width) }
-        ensures bytes { bytes.new ≡ recorded width (written self) bytes.old };
+        ensures fits { result ≡ (length bytes.old == size) }
+        ensures bytes { bytes.new ≡ recorded size (written self) bytes.old };
 
-    ghost narrow: { (1 ≤ width) × (width ≤ 8) };
+    ghost narrow: { (1 ≤ size) × (size ≤ 8) };
 
-    ghost sized: { (x : Self) → length (written x) ≡ width };
+    ghost sized: { (x : Self) → length (written x) ≡ size };
 
     ghost read_back: { (x : Self) → parsed (written x) ≡ Some x };
 
-    ghost whole: { (bytes : List ℕ) → (length bytes == width) ≡ false → parsed bytes ≡ None };
+    ghost whole: { (bytes : List ℕ) → (length bytes == size) ≡ false → parsed bytes ≡ None };
 }

@@ -12,7 +12,7 @@ use crate::reversal::Reversed;
 impl<K: Stored> Stored for Reversed<K> {
     const WIDTH: usize = K::WIDTH;
 
-    ghost width = { K.Stored.width };
+    ghost size = { K.Stored.size };
 
     ghost parsed = { λ bs. reversed_option (K.Stored.parsed bs) };
 
@@ -26,10 +26,10 @@ impl<K: Stored> Stored for Reversed<K> {
 
     ghost whole = { Prim.search rules };
 
-    fn record_width() -> usize
-        ensures { result ≡ K.Stored.width }
+    fn record_size() -> usize
+        ensures { result ≡ K.Stored.size }
     {
-        K::record_width()
+        K::record_size()
     }
 
     fn decode(bytes: &[u8]) -> Option<Self>
@@ -42,8 +42,8 @@ impl<K: Stored> Stored for Reversed<K> {
     }
 
     fn encode(self, bytes: &mut [u8]) -> bool
-        ensures fits { result ≡ (length bytes.old == K.Stored.width) }
-        ensures bytes { bytes.new ≡ recorded K.Stored.width (K.Stored.written self.inner) bytes.old }
+        ensures fits { result ≡ (length bytes.old == K.Stored.size) }
+        ensures bytes { bytes.new ≡ recorded K.Stored.size (K.Stored.written self.inner) bytes.old }
     {
         self.inner.encode(bytes)
     }

@@ -98,7 +98,7 @@ fn classes_in_a_set(rt: HostRuntime) {
 
 #[test]
 fn presence_records(rt: HostRuntime) {
-    assert_eq!(rt; Presence::record_width(), 1);
+    assert_eq!(rt; Presence::record_size(), 1);
     assert_eq!(rt; Presence::decode(&[0]), Some(Presence::Absent));
     assert_eq!(rt; Presence::decode(&[1]), Some(Presence::Present));
     assert_eq!(rt; Presence::decode(&[2]), None);
@@ -111,7 +111,7 @@ fn presence_records(rt: HostRuntime) {
 
 #[test]
 fn level_records(rt: HostRuntime) {
-    assert_eq!(rt; Level::record_width(), 2);
+    assert_eq!(rt; Level::record_size(), 2);
     assert_eq!(rt; Level::decode(&[1, 2]), Some(Level::new(513)));
     assert_eq!(rt; Level::decode(&[255, 255]), Some(Level::highest()));
     assert_eq!(rt; Level::decode(&[1]), None);
@@ -126,7 +126,7 @@ fn level_records(rt: HostRuntime) {
 
 #[test]
 fn class_records(rt: HostRuntime) {
-    assert_eq!(rt; Classes::record_width(), 4);
+    assert_eq!(rt; Classes::record_size(), 4);
     assert_eq!(rt;
         Classes::decode(&[1, 2, 3, 4]),
         Some(Classes::from_bits(0x0403_0201))
@@ -142,7 +142,7 @@ fn class_records(rt: HostRuntime) {
 
 #[test]
 fn reversed_records(rt: HostRuntime) {
-    assert_eq!(rt; Reversed::<Level>::record_width(), 2);
+    assert_eq!(rt; Reversed::<Level>::record_size(), 2);
     assert_eq!(rt; Reversed::<Level>::decode(&[1, 2]), Some(reversed(513)));
     assert_eq!(rt; Reversed::<Level>::decode(&[1]), None);
     let mut bytes = [9, 9];

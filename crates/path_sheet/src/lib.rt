@@ -1,11 +1,14 @@
 //! The path sheet, the worked example: vertices 0 to 4, edges 0-1, 1-2, 2-3 and 3-4, Levels 5 2 7 7 1.
 
-ghost use Rattle.std.specs.Prelude.{◌≡◌, None};
-ghost use Rattle.path_sheet.specs.PathSheet.{path, path_edges, path_records, Results};
+ghost use Rattle.std.specs.Prelude.{◌≡◌, [], ◌∷◌, None};
+ghost use Rattle.path_sheet.specs.PathSheet.{path, path_edges, Results};
 
 use graph::Edge;
 
 /// How many vertices the path has.
+pub const VERTICES: usize = 5;
+
+/// How many vertices the path has, by a call whose contract says so.
 pub fn order() -> usize
     ensures { result ≡ path.order }
 {
@@ -46,7 +49,7 @@ pub fn edge_records() -> Option<&'static [u8]>
 
 /// The records of the vertex weights, Levels 5 2 7 7 1.
 pub fn vertex_records() -> [u8; 10]
-    ensures { result ≡ path_records }
+    ensures { result ≡ 5 ∷ 0 ∷ 2 ∷ 0 ∷ 7 ∷ 0 ∷ 7 ∷ 0 ∷ 1 ∷ 0 ∷ [] }
 {
     [5, 0, 2, 0, 7, 0, 7, 0, 1, 0]
 }

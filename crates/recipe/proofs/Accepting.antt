@@ -13,7 +13,7 @@ use Rattle.recipe.specs.Grammar.{Digits, Number, letter, Spells, Spaces, Ends, S
 use Rattle.recipe.specs.Judging.{in_word, opens, word_run, before, runs, Progress, start, read_runs, ended, finished, judge}
 use Rattle.recipe.specs.Legal.{Leads}
 use Rattle.recipe.proofs.Answering.{not_accepted, same_value}
-use Rattle.recipe.proofs.Meaning.{Means, read_means, means_read, leads_fits, completes_leads}
+use Rattle.recipe.proofs.Meaning.{Means, read_means, means_read, leads_fits, fits_leads}
 use Rattle.recipe.proofs.Running.{Inside, front_ends, run_word, run_next, judged}
 use Rattle.recipe.proofs.Spelling.{word_spells, spells_word}
 
@@ -148,4 +148,4 @@ accepted_text text ws h =
 pub text_accepted : (text : List ℕ) (ws : List Word) → Text text ws → judge text ≡ accepted ws
 text_accepted text ws t =
     sym (judged text (accepted (record { words = ws; turn = Free })) t.short
-    (means_read (runs 0 text) ws start Free (spells_means ws text 0 t.spells) (completes_leads Free ws t.fit) (omega (arith, t.few))))
+    (means_read (runs 0 text) ws start Free (spells_means ws text 0 t.spells) (fits_leads Free ws t.fit) (omega (arith, t.few))))

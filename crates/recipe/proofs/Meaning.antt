@@ -8,10 +8,10 @@ use Rattle.refusal.specs.declared.Part.TheVariants as part
 use Rattle.recipe.specs.declared.turns.Turn.{Turn}
 use Rattle.recipe.specs.declared.turns.Turn.TheVariants.{Free, Held}
 use Rattle.recipe.specs.declared.words.Word.{Word}
-use Rattle.recipe.specs.Legal.{is_free, if_turn, completes, size_fits, sizes_fit, Leads, Legal}
+use Rattle.recipe.specs.Legal.{is_free, if_turn, fits, size_fits, sizes_fit, Leads, Legal}
 use Rattle.recipe.specs.Judging.{Run, Progress, start, admitted_word, turned_to, read_runs}
 use Rattle.recipe.specs.Shapes.{Parsed, step, hold, join, meet, forget, shape_of, word_of, sized_shape, sized, numeral, step_of}
-use Rattle.recipe.specs.Turns.{turn_after}
+use Rattle.recipe.specs.Turns.{turned}
 use Rattle.recipe.proofs.Answering.{not_accepted, same_value}
 use Rattle.recipe.proofs.Running.{refused_stays}
 
@@ -31,7 +31,7 @@ pub record Added (p : Progress) (rs : List Run) (q : Progress) : Type 0 where
 
 -- the ways that a run can be taken, over what the later runs mean
 module _ (p q : Progress) (r : Run) (rs : List Run) (later : (p' : Progress) → length p'.words ≤ 96 → read_runs (accepted p') rs ≡ accepted q → Added p' rs q) where
-  on_turn : (w : Word) (o : Option Turn) → word_of r.place r.bytes ≡ accepted w → length p.words < 96 → turn_after p.turn w ≡ o → read_runs (turned_to r.place w p o) rs ≡ accepted q → Added p (r ∷ rs) q
+  on_turn : (w : Word) (o : Option Turn) → word_of r.place r.bytes ≡ accepted w → length p.words < 96 → turned p.turn w ≡ o → read_runs (turned_to r.place w p o) rs ≡ accepted q → Added p (r ∷ rs) q
   on_turn w None is room e h = not_accepted (sym (refused_stays 15 r.place part.Recipe rs) ∙ h)
   on_turn w (Some t) is room e h =
       let a = later (record { words = p.words ++ w ∷ []; turn = t }) (omega (arith, length_push p.words w)) h in
@@ -46,9 +46,9 @@ module _ (p q : Progress) (r : Run) (rs : List Run) (later : (p' : Progress) →
   on_word : (v : Answer Word) → word_of r.place r.bytes ≡ v → read_runs (admitted_word r.place v p) rs ≡ accepted q → Added p (r ∷ rs) q
   on_word (refused n at e) is h = not_accepted (sym (refused_stays n at e rs) ∙ h)
   on_word (accepted w) is h =
-      cond_both (leb 96 (length p.words)) (refused 14 r.place part.Recipe) (turned_to r.place w p (turn_after p.turn w)) (λ a. read_runs a rs ≡ accepted q → Added p (r ∷ rs) q)
+      cond_both (leb 96 (length p.words)) (refused 14 r.place part.Recipe) (turned_to r.place w p (turned p.turn w)) (λ a. read_runs a rs ≡ accepted q → Added p (r ∷ rs) q)
       (λ b h'. not_accepted (sym (refused_stays 14 r.place part.Recipe rs) ∙ h'))
-      (λ b h'. on_turn w (turn_after p.turn w) is (leb-false 96 _ b) refl h')
+      (λ b h'. on_turn w (turned p.turn w) is (leb-false 96 _ b) refl h')
       h
 
 pub read_means : (rs : List Run) (p q : Progress) → length p.words ≤ 96 → read_runs (accepted p) rs ≡ accepted q → Added p rs q
@@ -69,26 +69,26 @@ means_read [] (w ∷ ws) p u m l few = absurd m
 means_read (r ∷ rs) [] p u m l few = absurd m
 means_read (r ∷ rs) (w ∷ ws) p u m l few =
     ap (λ v. read_runs (admitted_word r.place v p) rs) m.0
-    ∙ ap (λ a. read_runs a rs) (cond-false (leb 96 (length p.words)) (refused 14 r.place part.Recipe) (turned_to r.place w p (turn_after p.turn w)) (lt-leb 96 _ (omega arith)))
+    ∙ ap (λ a. read_runs a rs) (cond-false (leb 96 (length p.words)) (refused 14 r.place part.Recipe) (turned_to r.place w p (turned p.turn w)) (lt-leb 96 _ (omega arith)))
     ∙ ap (λ o. read_runs (turned_to r.place w p o) rs) l.1
     ∙ means_read rs ws (record { words = p.words ++ w ∷ []; turn = l.0 }) u m.1 l.2 (omega (arith, length_push p.words w))
     ∙ ap (λ ws'. accepted (record { words = ws'; turn = u })) (append_assoc p.words (w ∷ []) ws)
 
-pub leads_fits : (t : Turn) (ws : List Word) → Leads t ws Free → completes t ws ≡ true
+pub leads_fits : (t : Turn) (ws : List Word) → Leads t ws Free → fits t ws ≡ true
 leads_fits t [] l = ap is_free l
-leads_fits t (w ∷ ws) l = ap (λ o. if_turn o (λ next. completes next ws)) l.1 ∙ leads_fits l.0 ws l.2
+leads_fits t (w ∷ ws) l = ap (λ o. if_turn o (λ next. fits next ws)) l.1 ∙ leads_fits l.0 ws l.2
 
 free_only : (t : Turn) → is_free t ≡ true → t ≡ Free
 free_only Free e = refl
 free_only Held e = absurd (let z : ◌≡◌ {A = ℕ} 0 1 = cc in omega arith)
 
-completes_leads_by : (t : Turn) (w : Word) (ws : List Word) (o : Option Turn) → ((next : Turn) → completes next ws ≡ true → Leads next ws Free) → turn_after t w ≡ o → if_turn o (λ next. completes next ws) ≡ true → Leads t (w ∷ ws) Free
-completes_leads_by t w ws None later is h = absurd (let z : ◌≡◌ {A = ℕ} 0 1 = cc in omega arith)
-completes_leads_by t w ws (Some next) later is h = (next, is, later next h)
+fits_leads_by : (t : Turn) (w : Word) (ws : List Word) (o : Option Turn) → ((next : Turn) → fits next ws ≡ true → Leads next ws Free) → turned t w ≡ o → if_turn o (λ next. fits next ws) ≡ true → Leads t (w ∷ ws) Free
+fits_leads_by t w ws None later is h = absurd (let z : ◌≡◌ {A = ℕ} 0 1 = cc in omega arith)
+fits_leads_by t w ws (Some next) later is h = (next, is, later next h)
 
-pub completes_leads : (t : Turn) (ws : List Word) → completes t ws ≡ true → Leads t ws Free
-completes_leads t [] e = free_only t e
-completes_leads t (w ∷ ws) e = completes_leads_by t w ws (turn_after t w) (λ next. completes_leads next ws) refl e
+pub fits_leads : (t : Turn) (ws : List Word) → fits t ws ≡ true → Leads t ws Free
+fits_leads t [] e = free_only t e
+fits_leads t (w ∷ ws) e = fits_leads_by t w ws (turned t w) (λ next. fits_leads next ws) refl e
 
 sized_fits : (s : Parsed) (w : Word) → sized s ≡ accepted w → size_fits w ≡ true
 sized_fits (step f ds at) w e =
@@ -118,5 +118,5 @@ sound rs p h free =
     record {
       few = a.few;
       sizes = ap sizes_fit a.adds ∙ means_sizes rs a.words a.means;
-      fit = ap (completes Free) a.adds ∙ leads_fits Free a.words (subst (Leads Free a.words) free a.leads);
+      fit = ap (fits Free) a.adds ∙ leads_fits Free a.words (subst (Leads Free a.words) free a.leads);
     }

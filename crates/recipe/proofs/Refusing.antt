@@ -13,7 +13,7 @@ use Rattle.recipe.specs.Judging.{in_word, opens, word_run, Run, before, runs, Pr
 use Rattle.recipe.specs.Legal.{Leads}
 use Rattle.recipe.specs.Refused.{NoSpace, Separated, Fault, wrong_shape, wrong_size, too_many, out_of_turn, FirstFault, Refused, too_long, at_word, still_held}
 use Rattle.recipe.specs.Shapes.{numeral, Parsed, step, hold, join, meet, forget, shape_of, sized, sized_shape, word_of, step_of}
-use Rattle.recipe.specs.Turns.{turn_after}
+use Rattle.recipe.specs.Turns.{turned}
 use Rattle.recipe.proofs.Answering.{same_refusal, not_refused}
 use Rattle.recipe.proofs.Departing.{shape_departs}
 use Rattle.recipe.proofs.Meaning.{read_means}
@@ -120,7 +120,7 @@ module _ (b : ℕ) (bs : List ℕ) (at : ℕ) (p : Progress) (n place : ℕ) (q 
     fault = moved _ _ _ _ _ word n place q (sym (append-nil p.words)) (sym (add-zero at)) f;
   }
 
-  skip_word : (w : Word) (t : Turn) → Spells w word → turn_after p.turn w ≡ Some t → FirstFault (at + word_run text) (p.words ++ w ∷ []) t left n place q → FirstFault at p.words p.turn text n place q
+  skip_word : (w : Word) (t : Turn) → Spells w word → turned p.turn w ≡ Some t → FirstFault (at + word_run text) (p.words ++ w ∷ []) t left n place q → FirstFault at p.words p.turn text n place q
   skip_word w t spells turns h =
       let gap = front_space h.front h.bytes h.rest left h.is (front_ends text) h.nonempty h.no_space in
       record {
@@ -144,7 +144,7 @@ module _ (b : ℕ) (bs : List ℕ) (at : ℕ) (p : Progress) (n place : ℕ) (q 
     abbrev others : List Run
     others = runs (at + word_run text) left
 
-    on_turn : (w : Word) (o : Option Turn) → Spells w word → length p.words < 96 → turn_after p.turn w ≡ o → read_runs (turned_to at w p o) others ≡ refused n place q → FirstFault at p.words p.turn text n place q
+    on_turn : (w : Word) (o : Option Turn) → Spells w word → length p.words < 96 → turned p.turn w ≡ o → read_runs (turned_to at w p o) others ≡ refused n place q → FirstFault at p.words p.turn text n place q
     on_turn w None spells room is h =
         here few (same_refusal (Fault p.words p.turn at word) (sym (refused_stays 15 at part.Recipe others) ∙ h) (out_of_turn w spells room is))
     on_turn w (Some t) spells room is h = skip_word w t spells is (later (record { words = p.words ++ w ∷ []; turn = t }) (omega (arith, length_push p.words w)) h)
@@ -154,10 +154,10 @@ module _ (b : ℕ) (bs : List ℕ) (at : ℕ) (p : Progress) (n place : ℕ) (q 
         here few (same_refusal (Fault p.words p.turn at word) (sym (refused_stays m at' r others) ∙ h) (word_fault p.words p.turn at word (shape_of at word) m at' r refl is))
     on_word (accepted w) is h =
         let spells = word_spells at word w is in
-        cond_both (leb 96 (length p.words)) (refused 14 at part.Recipe) (turned_to at w p (turn_after p.turn w)) (λ a. read_runs a others ≡ refused n place q → FirstFault at p.words p.turn text n place q)
+        cond_both (leb 96 (length p.words)) (refused 14 at part.Recipe) (turned_to at w p (turned p.turn w)) (λ a. read_runs a others ≡ refused n place q → FirstFault at p.words p.turn text n place q)
         (λ c g.
         here few (same_refusal (Fault p.words p.turn at word) (sym (refused_stays 14 at part.Recipe others) ∙ g) (too_many w spells (omega (arith, leb-true 96 _ c)))))
-        (λ c g. on_turn w (turn_after p.turn w) spells (leb-false 96 _ c) refl g)
+        (λ c g. on_turn w (turned p.turn w) spells (leb-false 96 _ c) refl g)
         h
 
 fault_in : (fuel : ℕ) (text : List ℕ) (at : ℕ) (p : Progress) (n place : ℕ) (q : Part) → length text ≤ fuel → length p.words ≤ 96 → read_runs (accepted p) (runs at text) ≡ refused n place q → FirstFault at p.words p.turn text n place q

@@ -5,7 +5,7 @@ use Rattle.filters.specs.declared.families.Family.TheVariants.{Dilation, Erosion
 use Rattle.recipe.specs.declared.turns.Turn.TheVariants.{Free}
 use Rattle.recipe.specs.declared.words.Word.{Word}
 use Rattle.recipe.specs.declared.words.Word.TheVariants.{Step, Hold, Join, Meet, Forget}
-use Rattle.recipe.specs.Legal.{completes}
+use Rattle.recipe.specs.Legal.{fits}
 use Rattle.recipe.specs.Shapes.{numeral}
 
 -- decimal digits alone
@@ -73,5 +73,5 @@ SpellsAll text (w ∷ ws) = FirstWord text w (λ rest. SpellsAll rest ws)
 pub record Text (text : List ℕ) (ws : List Word) : Type 0 where
   pub short : length text ≤ 4096
   pub few : length ws ≤ 96
-  pub fit : completes Free ws ≡ true
+  pub fit : fits Free ws ≡ true
   pub spells : SpellsAll text ws

@@ -8,7 +8,7 @@ use Rattle.recipe.specs.declared.turns.Turn.{Turn}
 use Rattle.recipe.specs.declared.turns.Turn.TheVariants.{Free, Held}
 use Rattle.recipe.specs.declared.words.Word.{Word}
 use Rattle.recipe.specs.Shapes.{front, word_of}
-use Rattle.recipe.specs.Turns.{turn_after}
+use Rattle.recipe.specs.Turns.{turned}
 
 -- a longest run of bytes other than the space, with its place in the text
 pub record Run : Type 0 where
@@ -65,7 +65,7 @@ turned_to at w p (Some t) = accepted (record { words = p.words ++ w ∷ []; turn
 
 -- a word goes in if there is room, and it is in turn
 abbrev pub admitted : ℕ → Word → Progress → Answer Progress
-admitted at w p = cond (nat_le 96 (length p.words)) (refused 14 at part.Recipe) (turned_to at w p (turn_after p.turn w))
+admitted at w p = cond (nat_le 96 (length p.words)) (refused 14 at part.Recipe) (turned_to at w p (turned p.turn w))
 
 -- a word goes in if it is right by itself, there is room, and it is in turn
 abbrev pub admitted_word : ℕ → Answer Word → Progress → Answer Progress

@@ -4,7 +4,7 @@ use Rattle.recipe.specs.declared.turns.Turn.{Turn}
 use Rattle.recipe.specs.declared.turns.Turn.TheVariants.{Free, Held}
 use Rattle.recipe.specs.declared.words.Word.{Word}
 use Rattle.recipe.specs.declared.words.Word.TheVariants.{Step, Hold, Join, Meet, Forget}
-use Rattle.recipe.specs.Turns.{turn_after}
+use Rattle.recipe.specs.Turns.{turned}
 
 -- whether nothing is held
 abbrev pub is_free : Turn → Bool
@@ -17,14 +17,14 @@ if_turn None next = false
 if_turn (Some t) next = next t
 
 -- from this turn each word is in turn, and nothing is held at the end
-abbrev pub completes : Turn → List Word → Bool
-completes t [] = is_free t
-completes t (w ∷ ws) = if_turn (turn_after t w) (λ next. completes next ws)
+abbrev pub fits : Turn → List Word → Bool
+fits t [] = is_free t
+fits t (w ∷ ws) = if_turn (turned t w) (λ next. fits next ws)
 
 -- the words, each in turn, lead from a turn to a turn
 abbrev pub Leads : Turn → List Word → Turn → Type 0
 Leads t [] u = t ≡ u
-Leads t (w ∷ ws) u = (next : Turn) × (turn_after t w ≡ Some next) × Leads next ws u
+Leads t (w ∷ ws) u = (next : Turn) × (turned t w ≡ Some next) × Leads next ws u
 
 -- a filter's size is 1 to 200
 abbrev pub size_fits : Word → Bool
@@ -43,4 +43,4 @@ sizes_fit (w ∷ ws) = size_fits w && sizes_fit ws
 pub record Legal (ws : List Word) : Type 0 where
   pub few : length ws ≤ 96
   pub sizes : sizes_fit ws ≡ true
-  pub fit : completes Free ws ≡ true
+  pub fit : fits Free ws ≡ true

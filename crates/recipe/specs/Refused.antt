@@ -10,7 +10,7 @@ use Rattle.recipe.specs.Departs.{Departs}
 use Rattle.recipe.specs.Grammar.{Number, letter, Spells, Ends, SpellsAll}
 use Rattle.recipe.specs.Legal.{Leads}
 use Rattle.recipe.specs.Shapes.{numeral}
-use Rattle.recipe.specs.Turns.{turn_after}
+use Rattle.recipe.specs.Turns.{turned}
 
 -- no space among the bytes
 abbrev pub NoSpace : List ℕ → Type 0
@@ -36,7 +36,7 @@ pub data Fault (ws : List Word) (turn : Turn) (at : ℕ) (bytes : List ℕ) : �
   wrong_shape : (k : ℕ) → Departs bytes k → Fault ws turn at bytes 13 (at + k) part.Word
   wrong_size : SizeOutside bytes → Fault ws turn at bytes 11 at part.Word
   too_many : (w : Word) → Spells w bytes → length ws ≡ 96 → Fault ws turn at bytes 14 at part.Recipe
-  out_of_turn : (w : Word) → Spells w bytes → length ws < 96 → turn_after turn w ≡ None → Fault ws turn at bytes 15 at part.Recipe
+  out_of_turn : (w : Word) → Spells w bytes → length ws < 96 → turned turn w ≡ None → Fault ws turn at bytes 15 at part.Recipe
 
 -- the text, which begins at a place after the words `earlier`, spells more words, and then comes one that is at fault
 pub record FirstFault (at : ℕ) (earlier : List Word) (turn : Turn) (text : List ℕ) (number place : ℕ) (p : Part) : Type 0 where

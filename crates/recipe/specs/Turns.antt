@@ -6,14 +6,14 @@ use Rattle.recipe.specs.declared.words.Word.{Word}
 use Rattle.recipe.specs.declared.words.Word.TheVariants.{Step, Hold, Join, Meet, Forget}
 
 -- the turn after a word, or none where the word is out of turn
-abbrev pub turn_after : Turn → Word → Option Turn
-turn_after Free (Step f) = Some Free
-turn_after Free Hold = Some Held
-turn_after Free Join = None
-turn_after Free Meet = None
-turn_after Free Forget = None
-turn_after Held (Step f) = Some Held
-turn_after Held Hold = None
-turn_after Held Join = Some Free
-turn_after Held Meet = Some Free
-turn_after Held Forget = Some Free
+abbrev pub turned : Turn → Word → Option Turn
+turned Free (Step f) = Some Free
+turned Free Hold = Some Held
+turned Free Join = None
+turned Free Meet = None
+turned Free Forget = None
+turned Held (Step f) = Some Held
+turned Held Hold = None
+turned Held Join = Some Free
+turned Held Meet = Some Free
+turned Held Forget = Some Free

@@ -2,7 +2,7 @@
 
 ghost use Rattle.std.specs.Prelude.{◌≡◌, ◌≤◌, true, length, take};
 ghost use Rattle.recipe.specs.declared.turns.Turn.TheVariants.{Free};
-ghost use Rattle.recipe.specs.Legal.{completes, sizes_fit};
+ghost use Rattle.recipe.specs.Legal.{fits, sizes_fit};
 
 use crate::words::{MAX_WORDS, Word};
 
@@ -17,5 +17,5 @@ pub struct Recipe {
     ghost whole: { length words ≡ 96 },
     ghost few: { len ≤ 96 },
     ghost sizes: { sizes_fit (take len words) ≡ true },
-    ghost fit: { completes Free (take len words) ≡ true },
+    ghost fit: { fits Free (take len words) ≡ true },
 }

@@ -1,7 +1,7 @@
 //! At most one thing is held at a time.
 
 ghost use Rattle.std.specs.Prelude.{◌≡◌};
-ghost use Rattle.recipe.specs.Turns.{turn_after};
+ghost use Rattle.recipe.specs.Turns.{turned};
 
 use crate::words::Word;
 
@@ -17,7 +17,7 @@ pub enum Turn {
 impl Turn {
     /// The turn after a word, or none where the word is out of turn.
     pub fn after(self, word: Word) -> Option<Turn>
-        ensures { result ≡ turn_after self word }
+        ensures { result ≡ turned self word }
     {
         match (self, word) {
             (Turn::Free, Word::Step(_)) => Some(Turn::Free),

@@ -8,17 +8,17 @@ use lattice::Stored;
 
 /// Writes the record of a value as record i.
 fn encode_at<K: Stored>(value: K, records: &mut [u8], i: usize)
-    requires { i * K.Stored.width + K.Stored.width ≤ length records.old }
-    ensures { records.new ≡ with_record K.Stored.width records.old i (K.Stored.written value) }
+    requires { i * K.Stored.size + K.Stored.size ≤ length records.old }
+    ensures { records.new ≡ with_record K.Stored.size records.old i (K.Stored.written value) }
 {
-    let width = K::record_width();
+    let width = K::record_size();
     let start = i * width;
     value.encode(&mut records[start..start + width]);
 }
 
 /// Writes the records of the weights, one after the other.
 pub(crate) fn encode_all<K: Stored>(weights: &[K], records: &mut [u8])
-    requires { length records.old ≡ length weights.now * K.Stored.width }
+    requires { length records.old ≡ length weights.now * K.Stored.size }
     ensures { records.new ≡ flat_map K.Stored.written weights.now }
 {
     for (i, weight) in weights.iter().enumerate() {

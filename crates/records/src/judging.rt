@@ -14,8 +14,8 @@ use refusal::Refusal;
 
 /// Judges vertex record i.
 fn judge_vertex<K: Stored>(records: &[u8], i: usize) -> Result<(), Refusal>
-    requires { i * K.Stored.width + K.Stored.width ≤ length records.now }
-    ensures { answer result ≡ vertex_verdict (format K.Stored.width K.Stored.parsed) records.now i }
+    requires { i * K.Stored.size + K.Stored.size ≤ length records.now }
+    ensures { answer result ≡ vertex_verdict (format K.Stored.size K.Stored.parsed) records.now i }
 {
     match decode_at::<K>(records, i) {
         Some(_) => Ok(()),
@@ -25,8 +25,8 @@ fn judge_vertex<K: Stored>(records: &[u8], i: usize) -> Result<(), Refusal>
 
 /// Judges each vertex record, first to last.
 fn judge_vertices<K: Stored>(records: &[u8], n: usize) -> Result<(), Refusal>
-    requires { length records.now ≡ n * K.Stored.width }
-    ensures { answer result ≡ first_refusal (vertex_verdict (format K.Stored.width K.Stored.parsed) records.now) n }
+    requires { length records.now ≡ n * K.Stored.size }
+    ensures { answer result ≡ first_refusal (vertex_verdict (format K.Stored.size K.Stored.parsed) records.now) n }
 {
     for i in 0..n {
         judge_vertex::<K>(records, i)?;
@@ -54,9 +54,9 @@ fn judge_edge<K: Stored>(
 ) -> Result<(), Refusal>
     requires within { Within n edge }
     requires few { n + j < 2 ^ 64 }
-    requires vertices { length vertex_records.now ≡ n * K.Stored.width }
-    requires edges { j * K.Stored.width + K.Stored.width ≤ length edge_records.now }
-    ensures { answer result ≡ edge_verdict K.Kind.leq (format K.Stored.width K.Stored.parsed) n vertex_records.now edge_records.now j edge }
+    requires vertices { length vertex_records.now ≡ n * K.Stored.size }
+    requires edges { j * K.Stored.size + K.Stored.size ≤ length edge_records.now }
+    ensures { answer result ≡ edge_verdict K.Kind.leq (format K.Stored.size K.Stored.parsed) n vertex_records.now edge_records.now j edge }
 {
     let Some(weight) = decode_at::<K>(edge_records, j) else {
         return Err(Refusal::NotAValue(n + j));
@@ -79,9 +79,9 @@ fn judge_edges<K: Stored>(
 ) -> Result<(), Refusal>
     requires within { AllWithin n table.now }
     requires few { n + length table.now < 2 ^ 64 }
-    requires vertices { length vertex_records.now ≡ n * K.Stored.width }
-    requires edges { length edge_records.now ≡ length table.now * K.Stored.width }
-    ensures { answer result ≡ table_verdict K.Kind.leq (format K.Stored.width K.Stored.parsed) n table.now vertex_records.now edge_records.now }
+    requires vertices { length vertex_records.now ≡ n * K.Stored.size }
+    requires edges { length edge_records.now ≡ length table.now * K.Stored.size }
+    ensures { answer result ≡ table_verdict K.Kind.leq (format K.Stored.size K.Stored.parsed) n table.now vertex_records.now edge_records.now }
 {
     for (j, edge) in table.iter().enumerate() {
         judge_edge::<K>(n, *edge, j, vertex_records, edge_records)?;
@@ -92,15 +92,15 @@ fn judge_edges<K: Stored>(
 /// Whether the bytes are as many records as the count says.
 pub(crate) fn is_whole<K: Stored>(count: usize, records: &[u8]) -> bool
     requires { count ≤ 4000000 }
-    ensures { result ≡ bytes_fit count K.Stored.width records.now }
+    ensures { result ≡ bytes_fit count K.Stored.size records.now }
 {
-    records.len() == count * K::record_width()
+    records.len() == count * K::record_size()
 }
 
 /// Whether the bytes are as many records as the count says, or absent.
 fn is_absent_or_whole<K: Stored>(count: usize, records: Option<&[u8]>) -> bool
     requires { count ≤ 4000000 }
-    ensures { result ≡ edge_bytes_fit count K.Stored.width (bytes_in records.entry) }
+    ensures { result ≡ edge_bytes_fit count K.Stored.size (bytes_in records.entry) }
 {
     match records {
         Some(records) => is_whole::<K>(count, records),
@@ -114,7 +114,7 @@ pub(crate) fn judge<K: Stored>(
     vertex_records: &[u8],
     edge_records: Option<&[u8]>,
 ) -> Result<(), Refusal>
-    ensures { answer result ≡ records_verdict K.Kind.leq (format K.Stored.width K.Stored.parsed) (shape_of graph.now) vertex_records.now (bytes_in edge_records.entry) }
+    ensures { answer result ≡ records_verdict K.Kind.leq (format K.Stored.size K.Stored.parsed) (shape_of graph.now) vertex_records.now (bytes_in edge_records.entry) }
 {
     let n = graph.order();
     let table = graph.edges();

@@ -1,11 +1,11 @@
 //! Weights held beside those of a sheet.
 
-ghost use Rattle.std.specs.Prelude.{◌≡◌, MatchResult};
+ghost use Rattle.std.specs.Prelude.{◌≡◌};
 ghost use Rattle.refusal.specs.Reports.{answer};
 ghost use Rattle.filters.specs.Calls.{outcome};
 ghost use Rattle.filters.specs.Weightings.{weights_in, weights_before, weights_after};
 ghost use Rattle.stories.specs.Calls.{hold_call, join_call, meet_call, forget_call};
-ghost use Rattle.sheet.specs.States.{sheet_shape, move_answer};
+ghost use Rattle.sheet.specs.States.{sheet_shape, moved, graph_after};
 
 use crate::refused::Refused;
 use crate::states::{Clear, Holding, Sheet};
@@ -23,8 +23,8 @@ impl<'g, 'e, K: Kind> Sheet<'g, 'e, K, Clear> {
         weights: Weights<'_, '_, K>,
         held: WeightsMut<'_, '_, K>,
     ) -> Result<Sheet<'g, 'e, K, Holding>, Refused<Self>>
-        ensures buffers { outcome (move_answer result) (weights_in weights.entry) (weights_after held.exit) ≡ hold_call (sheet_shape self.entry) (weights_in weights.entry) (weights_before held.entry) }
-        ensures sheet { MatchResult result (λ s. s.graph ≡ self.entry.graph) (λ e. e.sheet.graph ≡ self.entry.graph) }
+        ensures buffers { outcome (moved result) (weights_in weights.entry) (weights_after held.exit) ≡ hold_call (sheet_shape self.entry) (weights_in weights.entry) (weights_before held.entry) }
+        ensures sheet { graph_after result ≡ self.entry.graph }
     {
         let Weights { vertices, edges } = weights;
         let weights = Weights { vertices, edges };
@@ -43,8 +43,8 @@ impl<'g, 'e, K: Kind> Sheet<'g, 'e, K, Holding> {
         weights: WeightsMut<'_, '_, K>,
         held: WeightsMut<'_, '_, K>,
     ) -> Result<Sheet<'g, 'e, K, Clear>, Refused<Self>>
-        ensures buffers { outcome (move_answer result) (weights_after weights.exit) (weights_after held.exit) ≡ join_call operations (sheet_shape self.entry) (weights_before weights.entry) (weights_before held.entry) }
-        ensures sheet { MatchResult result (λ s. s.graph ≡ self.entry.graph) (λ e. e.sheet.graph ≡ self.entry.graph) }
+        ensures buffers { outcome (moved result) (weights_after weights.exit) (weights_after held.exit) ≡ join_call operations (sheet_shape self.entry) (weights_before weights.entry) (weights_before held.entry) }
+        ensures sheet { graph_after result ≡ self.entry.graph }
     {
         let WeightsMut { vertices, edges } = weights;
         let weights = WeightsMut { vertices, edges };
@@ -61,8 +61,8 @@ impl<'g, 'e, K: Kind> Sheet<'g, 'e, K, Holding> {
         weights: WeightsMut<'_, '_, K>,
         held: WeightsMut<'_, '_, K>,
     ) -> Result<Sheet<'g, 'e, K, Clear>, Refused<Self>>
-        ensures buffers { outcome (move_answer result) (weights_after weights.exit) (weights_after held.exit) ≡ meet_call operations (sheet_shape self.entry) (weights_before weights.entry) (weights_before held.entry) }
-        ensures sheet { MatchResult result (λ s. s.graph ≡ self.entry.graph) (λ e. e.sheet.graph ≡ self.entry.graph) }
+        ensures buffers { outcome (moved result) (weights_after weights.exit) (weights_after held.exit) ≡ meet_call operations (sheet_shape self.entry) (weights_before weights.entry) (weights_before held.entry) }
+        ensures sheet { graph_after result ≡ self.entry.graph }
     {
         let WeightsMut { vertices, edges } = weights;
         let weights = WeightsMut { vertices, edges };
@@ -79,8 +79,8 @@ impl<'g, 'e, K: Kind> Sheet<'g, 'e, K, Holding> {
         weights: Weights<'_, '_, K>,
         held: WeightsMut<'_, '_, K>,
     ) -> Result<Sheet<'g, 'e, K, Clear>, Refused<Self>>
-        ensures buffers { outcome (move_answer result) (weights_in weights.entry) (weights_after held.exit) ≡ forget_call operations (sheet_shape self.entry) (weights_in weights.entry) (weights_before held.entry) }
-        ensures sheet { MatchResult result (λ s. s.graph ≡ self.entry.graph) (λ e. e.sheet.graph ≡ self.entry.graph) }
+        ensures buffers { outcome (moved result) (weights_in weights.entry) (weights_after held.exit) ≡ forget_call operations (sheet_shape self.entry) (weights_in weights.entry) (weights_before held.entry) }
+        ensures sheet { graph_after result ≡ self.entry.graph }
     {
         let Weights { vertices, edges } = weights;
         let weights = Weights { vertices, edges };
@@ -93,8 +93,8 @@ impl<'g, 'e, K: Kind> Sheet<'g, 'e, K, Holding> {
 impl<'g, 'e, K, S> Sheet<'g, 'e, K, S> {
     /// The sheet in its next state where the call that was made is accepted; else the sheet as it was, with the refusal.
     fn settle<T>(self, said: Result<(), Refusal>) -> Result<Sheet<'g, 'e, K, T>, Refused<Self>>
-        ensures said { move_answer result ≡ answer said }
-        ensures sheet { MatchResult result (λ s. s.graph ≡ self.entry.graph) (λ e. e.sheet.graph ≡ self.entry.graph) }
+        ensures said { moved result ≡ answer said }
+        ensures sheet { graph_after result ≡ self.entry.graph }
     {
         match said {
             Ok(()) => Ok(self.into_state()),

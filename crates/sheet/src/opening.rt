@@ -1,11 +1,11 @@
 //! Sheets from records, and back.
 
-ghost use Rattle.std.specs.Prelude.{◌≡◌, IfOk, IfErr};
+ghost use Rattle.std.specs.Prelude.{◌≡◌};
 ghost use Rattle.graph.specs.Shapes.{shape_of};
 ghost use Rattle.filters.specs.Weightings.{weights_in, weights_before, weights_after};
 ghost use Rattle.records.specs.Calls.{loaded, load_call, bytes_of_both, stored, store_call};
 ghost use Rattle.records.specs.Formats.{format, bytes_in};
-ghost use Rattle.sheet.specs.States.{sheet_shape, open_answer, close_answer};
+ghost use Rattle.sheet.specs.States.{sheet_shape, opened, KeepsGraph, closed, HandsBack};
 
 use crate::refused::Refused;
 use crate::states::{Clear, Sheet};
@@ -27,8 +27,8 @@ impl<'g, 'e, K: Stored> Sheet<'g, 'e, K, Clear> {
         edge_records: Option<&[u8]>,
         weights: WeightsMut<'_, '_, K>,
     ) -> Result<Sheet<'g, 'e, K, Clear>, Refusal>
-        ensures buffers { loaded (open_answer result) (weights_after weights.exit) ≡ load_call K.Kind.operations K.Kind.leq (format K.Stored.width K.Stored.parsed) (shape_of graph.now) vertex_records.now (bytes_in edge_records.entry) (weights_before weights.entry) }
-        ensures sheet { IfOk result (λ s. s.graph ≡ graph.entry) }
+        ensures buffers { loaded (opened result) (weights_after weights.exit) ≡ load_call K.Kind.operations K.Kind.leq (format K.Stored.size K.Stored.parsed) (shape_of graph.now) vertex_records.now (bytes_in edge_records.entry) (weights_before weights.entry) }
+        ensures sheet { KeepsGraph graph.entry result }
     {
         let WeightsMut { vertices, edges } = weights;
         load(
@@ -50,8 +50,8 @@ impl<'g, 'e, K: Stored> Sheet<'g, 'e, K, Clear> {
         vertex_records: &mut [u8],
         edge_records: &mut [u8],
     ) -> Result<(), Refused<Self>>
-        ensures buffers { stored (close_answer result) (bytes_of_both vertex_records.new edge_records.new) ≡ store_call K.Stored.width K.Stored.written (sheet_shape self.entry) (weights_in weights.entry) (bytes_of_both vertex_records.old edge_records.old) }
-        ensures sheet { IfErr result (λ e. e.sheet.graph ≡ self.entry.graph) }
+        ensures buffers { stored (closed result) (bytes_of_both vertex_records.new edge_records.new) ≡ store_call K.Stored.size K.Stored.written (sheet_shape self.entry) (weights_in weights.entry) (bytes_of_both vertex_records.old edge_records.old) }
+        ensures sheet { HandsBack self.entry.graph result }
     {
         let Weights { vertices, edges } = weights;
         match store(

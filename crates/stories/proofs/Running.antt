@@ -9,7 +9,7 @@ use Rattle.filters.specs.Calls.{wrong_length, wrong_size, lawful_size}
 use Rattle.filters.specs.Weightings.{Weighting, Fits, filtered}
 use Rattle.filters.specs.declared.families.Filter.{Filter}
 use Rattle.recipe.specs.Judging.{judge}
-use Rattle.recipe.specs.Legal.{completes, sizes_fit}
+use Rattle.recipe.specs.Legal.{fits, sizes_fit}
 use Rattle.recipe.specs.declared.turns.Turn.{Turn}
 use Rattle.recipe.specs.declared.turns.Turn.TheVariants.{Free, Held}
 use Rattle.recipe.specs.declared.words.Word.{Word}
@@ -71,7 +71,7 @@ module _ {K : Type 0} (k : Operations K) (g : Shape) (sound : Accepted g) where
       let then_by : Bool → Verdict = λ m. cond m (accepted tt) wrong_size in
       ap by (both_suit g) ∙ ap then_by in_range
 
-  word_by_word : (t : Turn) (ws : List Word) (w h : Weighting K) (r : List Word) → completes t ws ≡ true → sizes_fit ws ≡ true → Fits g w → Fits g h
+  word_by_word : (t : Turn) (ws : List Word) (w h : Weighting K) (r : List Word) → fits t ws ≡ true → sizes_fit ws ≡ true → Fits g w → Fits g h
       → Trace k g (state_in t w h r) (map (call_of g) ws) (map (λ _. accepted tt) ws) (clear (done k g ws w (held_in t h)) r)
   word_by_word Free [] w h r f s fw fh = end (clear w r)
   word_by_word Held [] w h r f s fw fh = absurd (false≢true f)

@@ -4,4 +4,4 @@ use Rattle.records.proofs.decoding.decode_all.Given as goal
 
 -- the weights so far are the values of their records
 abbrev pub invariant-loop-i : goal.invariant-loop-i
-invariant-loop-i g l = take l.i l.weights ≡ values (format g.K.Stored.width g.K.Stored.parsed) g.K.Kind.operations.lowest l.i l.records
+invariant-loop-i g l = take l.i l.weights ≡ values (format g.K.Stored.size g.K.Stored.parsed) g.K.Kind.operations.lowest l.i l.records

@@ -6,4 +6,4 @@ use Rattle.records.proofs.judging.judge_vertices.Given as goal
 
 -- no record so far is refused
 abbrev pub invariant-loop-i : goal.invariant-loop-i
-invariant-loop-i g l = first_refusal (vertex_verdict (format g.K.Stored.width g.K.Stored.parsed) l.records) l.i ≡ accepted tt
+invariant-loop-i g l = first_refusal (vertex_verdict (format g.K.Stored.size g.K.Stored.parsed) l.records) l.i ≡ accepted tt

@@ -9,7 +9,7 @@ use Rattle.records.proofs.storing.store.Goals as goal
 
 pub returns : goal.returns
 returns g c =
-    let size = g.K.Stored.width in
+    let size = g.K.Stored.size in
     let written = g.K.Stored.written in
     let f = format size g.K.Stored.parsed in
     let sized = g.met.K.Stored.sized in

@@ -1,0 +1,195 @@
+//! Runs of a task, and their times.
+
+use crate::jobs::{Job, Task};
+use crate::levels::{Buffers, Records};
+use anyhow::anyhow;
+use filters::{Filter, Weights, WeightsMut};
+use graph::{Graph, judge};
+use lattice::{Kind, Level};
+use refusal::Refusal;
+use sheet::{Clear, Sheet};
+use std::alloc::Global;
+use std::time::{Duration, Instant};
+
+/// The buffers of all runs.
+#[derive(Drop)]
+struct Bench {
+    start: Buffers,
+    start_records: Records,
+    weights: Buffers,
+    scratch: Buffers,
+    records: Records,
+}
+
+impl Bench {
+    fn new(heap: Global, graph: &Graph) -> anyhow::Result<Bench> {
+        let n = graph.order();
+        let m = graph.edges().len();
+        let start = Buffers::starting(heap, n, graph.edges())?;
+        let start_records = Records::of(heap, &start)?;
+        let records = Records::of(heap, &start)?;
+        Ok(Bench {
+            start,
+            start_records,
+            weights: Buffers::lowest(heap, n, m)?,
+            scratch: Buffers::lowest(heap, n, m)?,
+            records,
+        })
+    }
+
+    /// Does a task once from the starting weights, and answers the time of its call alone.
+    fn time(&mut self, rt: &HostRuntime, task: Task, graph: &Graph) -> anyhow::Result<Duration> {
+        match task {
+            Task::Open => {
+                self.weights.clear();
+                time_open(
+                    rt,
+                    graph,
+                    self.start_records.vertices.as_slice(),
+                    &mut self.weights,
+                )
+            }
+            Task::Step(filter) => {
+                self.weights.copy_from(&self.start)?;
+                time_step(rt, filter, graph, &mut self.weights, &mut self.scratch)
+            }
+            Task::Close => {
+                self.records.clear();
+                time_close(
+                    rt,
+                    graph,
+                    self.start_records.vertices.as_slice(),
+                    &mut self.weights,
+                    &mut self.records,
+                )
+            }
+        }
+    }
+
+    /// The checksum of what the task wrote.
+    fn checksum(&self, heap: Global, task: Task) -> anyhow::Result<u64> {
+        match task {
+            Task::Open => self.weights.checksum(heap),
+            Task::Step(_) => self.weights.checksum(heap),
+            Task::Close => Ok(self.records.checksum()),
+        }
+    }
+}
+
+/// No edge records.
+fn absent() -> Option<&'static [u8]> {
+    None
+}
+
+/// Opens a sheet.
+fn open<'g, 'e>(
+    graph: &'g Graph<'e>,
+    records: &[u8],
+    edge_records: Option<&[u8]>,
+    weights: &mut Buffers,
+) -> Result<Sheet<'g, 'e, Level, Clear>, Refusal> {
+    let vertices = weights.vertices.as_mut_slice();
+    let edges = weights.edges.as_mut_slice();
+    Sheet::open(graph, records, edge_records, WeightsMut { vertices, edges })
+}
+
+/// The time of opening a sheet whose edge records are absent.
+fn time_open(
+    rt: &HostRuntime,
+    graph: &Graph,
+    records: &[u8],
+    weights: &mut Buffers,
+) -> anyhow::Result<Duration> {
+    let start = Instant::now(rt)?;
+    let answer = open(graph, records, absent(), weights);
+    let time = start.elapsed(rt)?;
+    match answer {
+        Ok(_) => Ok(time),
+        Err(_) => Err(anyhow!("opening was refused")),
+    }
+}
+
+/// The time of one application of a filter.
+fn time_step(
+    rt: &HostRuntime,
+    filter: Filter,
+    graph: &Graph,
+    weights: &mut Buffers,
+    scratch: &mut Buffers,
+) -> anyhow::Result<Duration> {
+    let weights = WeightsMut {
+        vertices: weights.vertices.as_mut_slice(),
+        edges: weights.edges.as_mut_slice(),
+    };
+    let scratch = WeightsMut {
+        vertices: scratch.vertices.as_mut_slice(),
+        edges: scratch.edges.as_mut_slice(),
+    };
+    let start = Instant::now(rt)?;
+    let answer = filter.apply(graph, weights, scratch);
+    let time = start.elapsed(rt)?;
+    match answer {
+        Ok(()) => Ok(time),
+        Err(_) => Err(anyhow!("the filter was refused")),
+    }
+}
+
+/// The time of closing a sheet, which is opened before.
+fn time_close(
+    rt: &HostRuntime,
+    graph: &Graph,
+    start_records: &[u8],
+    weights: &mut Buffers,
+    records: &mut Records,
+) -> anyhow::Result<Duration> {
+    let Ok(sheet) = open(graph, start_records, absent(), weights) else {
+        return Err(anyhow!("opening was refused"));
+    };
+    let weights = Weights {
+        vertices: weights.vertices.as_slice(),
+        edges: weights.edges.as_slice(),
+    };
+    let vertex_records = records.vertices.as_mut_slice();
+    let edge_records = records.edges.as_mut_slice();
+    let start = Instant::now(rt)?;
+    let answer = sheet.close(weights, vertex_records, edge_records);
+    let time = start.elapsed(rt)?;
+    match answer {
+        Ok(()) => Ok(time),
+        Err(_) => Err(anyhow!("closing was refused")),
+    }
+}
+
+/// Prints the best and the median of the times, and a checksum. The median of an even number is the later of the two middle ones.
+fn print_result(rt: &HostRuntime, times: &mut Vec<Duration>, checksum: u64) -> anyhow::Result<()> {
+    times.sort();
+    let middle = times.len() / 2;
+    let (Some(best), Some(median)) = (times.first(), times.get(middle)) else {
+        return Err(anyhow!("there was no run"));
+    };
+    let best = best.as_secs_f64() * 1000.0;
+    let median = median.as_secs_f64() * 1000.0;
+    println!(rt; "best {best:.4} ms, median {median:.4} ms, checksum {checksum:016x}")?;
+    Ok(())
+}
+
+/// Does the task on the graph as often as the job says, each time from the starting weights, and prints the result.
+fn repeat_on(rt: &HostRuntime, job: Job, graph: &Graph) -> anyhow::Result<()> {
+    let heap = rt.alloc();
+    let mut bench = Bench::new(heap, graph)?;
+    let mut times = Vec::new(heap);
+    for _ in 0..job.repeat {
+        times.push(bench.time(rt, job.task, graph)?)?;
+    }
+    print_result(rt, &mut times, bench.checksum(heap, job.task)?)
+}
+
+/// Does a job: makes its graph, repeats its task, and prints the result.
+pub(crate) fn measure(rt: &HostRuntime, job: Job) -> anyhow::Result<()> {
+    let table = job.mesh.edges(rt.alloc())?;
+    let mut graph = Graph::empty();
+    match judge(&mut graph, job.mesh.order(), table.as_slice()) {
+        Ok(()) => repeat_on(rt, job, &graph),
+        Err(_) => Err(anyhow!("the edge table makes no graph")),
+    }
+}
