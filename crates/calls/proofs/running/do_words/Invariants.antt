@@ -8,5 +8,5 @@ use Rattle.calls.proofs.running.do_words.Given as goal
 abbrev pub invariant-loop-i : goal.invariant-loop-i
 invariant-loop-i g l =
     let k = g.K.Kind.operations in
-    words_done k (shape_of l.graph) (drop l.i l.words) (pair (weighting l.vertices l.edges) (weighting l.held-vertices l.held-edges))
-    ≡ words_done k (shape_of l.graph) l.words (pair (weighting l.initial.vertices l.initial.edges) (weighting l.initial.held-vertices l.initial.held-edges))
+    words_done k (shape_of l.graph) (drop l.i l.words) (pair (weighting l.vertices l.edges) (weighting l.held_vertices l.held_edges))
+    ≡ words_done k (shape_of l.graph) l.words (pair (weighting l.initial.vertices l.initial.edges) (weighting l.initial.held_vertices l.initial.held_edges))

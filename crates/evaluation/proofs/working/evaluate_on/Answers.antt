@@ -6,6 +6,6 @@ use Rattle.evaluation.proofs.working.evaluate_on.Goals as goal
 
 pub returns : goal.returns
 returns g c = record {
-  records = handed_out _ (shape_of c.args.graph.now) _ _ _ _ _ _ _ (take_at _ _ _ (omega arith)) (take_at _ _ _ (omega arith)) c.order-vertices.ensures (ap length c.edges-edges.ensures) c.in-ok-words.ensures;
+  records = handed_out _ (shape_of c.args.graph.now) _ _ _ _ _ _ _ (take_at _ _ _ (omega arith)) (take_at _ _ _ (omega arith)) c.order-vertices.ensures (ap length c.edges-edges.ensures) c.in_ok-words.ensures;
   sizes = search rules;
 }

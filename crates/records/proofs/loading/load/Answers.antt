@@ -14,18 +14,18 @@ returns g c =
     let leq = g.K.Kind.leq in
     let f = format g.K.Stored.size g.K.Stored.parsed in
     let graph = shape_of c.args.graph.now in
-    let vertices = c.args.vertex-records.now in
-    let edges = bytes_in c.args.edge-records in
+    let vertices = c.args.vertex_records.now in
+    let edges = bytes_in c.args.edge_records in
     let w = weights_before c.args.weights in
-    let verdict = ap (λ (l : Loaded _). l.answer) c.load-into.ensures in
+    let verdict = ap (λ (l : Loaded _). l.answer) c.load_into.ensures in
     let right = accepts g.K.Kind.below leq g.met.K.Kind.decided f graph vertices w edges _ verdict in
     record {
-      call = c.load-into.ensures;
+      call = c.load_into.ensures;
       accepted = right;
       judged = λ a. judged g.K.Kind.below leq g.met.K.Kind.decided f graph vertices w edges _ a verdict;
       bounded = λ is.
           let new = record_weights g.K.Kind.operations f graph vertices edges in
-          let written = ap (λ (l : Loaded _). l.weights) c.load-into.ensures ∙ ap (λ v. by_verdict v new w) (sym verdict ∙ is) in
+          let written = ap (λ (l : Loaded _). l.weights) c.load_into.ensures ∙ ap (λ v. by_verdict v new w) (sym verdict ∙ is) in
           let P : Weighting _ → Type 0 = EdgesBelowEnds g.K.Kind.below graph in
           subst P (sym written) (edges_below_ends g.K.Kind.below g.K.Kind.operations g.met.K.Kind.lattice f graph vertices w edges (right.0 is));
     }

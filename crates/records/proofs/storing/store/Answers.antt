@@ -16,7 +16,7 @@ returns g c =
     let read_back = g.met.K.Stored.read_back in
     let graph = c.args.graph.now in
     let w = weights_in c.args.weights in
-    let call = c.store-from.ensures in
+    let call = c.store_from.ensures in
     record {
       call = call;
       vertices = λ accepts.

@@ -10,8 +10,8 @@ loop-rest-preserved c =
     let name = stripped.1.1 ∙ ap (λ text. codes "reversed-" ++ text) (sym stripped.2) in
     (search rules, (suc taken.0, taken.1 ∙ ap (reversals taken.0) name ∙ one_more taken.0 c.in-Some.rest.now, ap not taken.2))
 
-pub returns-in-err-base : goal.returns-in-err-base
-returns-in-err-base c =
+pub returns-in_err-base : goal.returns-in_err-base
+returns-in_err-base c =
     let taken = c.loop-rest.invariant.1 in
-    let left = c.in-default.ensures.cases in
-    rw c.from-residual.ensures (λ kind names. no_kind taken.0 names.count c.loop-rest.name.now kind.base left (c.in-err-base.ensures kind.base) (sym taken.1 ∙ names.spelled))
+    let left = c.in_default.ensures.cases in
+    rw c.from_residual.ensures (λ kind names. no_kind taken.0 names.count c.loop-rest.name.now kind.base left (c.in_err-base.ensures kind.base) (sym taken.1 ∙ names.spelled))

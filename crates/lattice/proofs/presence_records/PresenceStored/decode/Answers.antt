@@ -9,5 +9,5 @@ returns-in-0 c = sym (presence_read c.args.bytes.now (omega (arith, ltb-true, lt
 pub returns-in-1 : goal.returns-in-1
 returns-in-1 c = sym (presence_read c.args.bytes.now (omega (arith, ltb-true, ltb-false)) ∙ ap presence_of c.in-1.is)
 
-pub returns-in-default-byte : goal.returns-in-default-byte
-returns-in-default-byte c = sym (presence_read c.args.bytes.now (omega (arith, ltb-true, ltb-false)) ∙ no_presence (get_or c.args.bytes.now 0 0) (omega arith))
+pub returns-in_default-byte : goal.returns-in_default-byte
+returns-in_default-byte c = sym (presence_read c.args.bytes.now (omega (arith, ltb-true, ltb-false)) ∙ no_presence (get_or c.args.bytes.now 0 0) (omega arith))
