@@ -1,6 +1,8 @@
 //! What holds of the filters. Each function does nothing: its contract is a theorem on the definitions that the contracts of the
 //! calls cite.
 
+#![tactic(auto)]
+
 ghost use Rattle.lattice.specs.Morphisms.{Morphism};
 ghost use Rattle.algebra.specs.Cases.{SmallCases};
 ghost use Rattle.algebra.specs.Laws.{AllPassesCombine, DilationAdjoint, OpeningsAbsorb, ClosingsAbsorb, AlternatesAbsorb, EdgesStayBelowEnds, Neighbourhoods, FiltersCommute};

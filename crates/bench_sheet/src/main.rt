@@ -4,6 +4,8 @@
 //! line: the best and the median time of a run, and a checksum of what the last one wrote. Without arguments it prints how to call
 //! it.
 
+#![tactic(auto)]
+
 mod generator;
 mod jobs;
 mod levels;

@@ -3,6 +3,8 @@
 //! C passes numbers, a `bool`, byte slices (a pointer and then a length) and places for a refusal and a count; no function has a
 //! precondition on what is in them. `c/evaluator.h` declares the functions, and `docs/c-library.md` says how to link and call them.
 
+#![tactic(auto)]
+
 mod calls;
 mod exports;
 mod problems;

@@ -2,6 +2,8 @@
 //!
 //! Each call judges the lengths of its buffers first, and a refused one changes nothing.
 
+#![tactic(auto)]
+
 mod holding;
 mod places;
 mod progress;

@@ -1,6 +1,8 @@
 //! Runs a recipe on the weights of a graph, from files to files: the records of the weights come in, and those of the filtered
 //! weights go out. `docs/evaluate.md` says how to use it.
 
+#![tactic(auto)]
+
 mod files;
 mod meters;
 mod printing;

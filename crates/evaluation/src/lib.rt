@@ -5,6 +5,8 @@
 //! [`evaluate_with`] and [`evaluate_as_with`] also tell how far the run is.
 //! [`check_graph`] judges a graph file alone.
 
+#![tactic(auto)]
+
 mod checking;
 mod choosing;
 mod evaluating;

@@ -1,5 +1,7 @@
 //! Filters of the weights of a graph.
 
+#![tactic(auto)]
+
 mod families;
 mod filtering;
 mod fitting;

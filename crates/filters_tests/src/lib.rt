@@ -1,5 +1,7 @@
 //! Examples of filters: their results on small graphs, their refusals, and the numbers of each law.
 
+#![tactic(auto)]
+
 #[cfg(test)]
 mod laws;
 #[cfg(test)]

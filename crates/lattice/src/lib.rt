@@ -3,6 +3,8 @@
 //! [`Presence`], [`Level`], [`Classes`] and [`Reversed`] of any of them are kinds ([`Kind`]). Some kinds are chains
 //! ([`Chain`]), and some have records of bytes ([`Stored`]).
 
+#![tactic(auto)]
+
 mod chains;
 mod class_records;
 mod class_sets;

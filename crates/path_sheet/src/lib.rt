@@ -1,5 +1,7 @@
 //! The path sheet, the worked example: vertices 0 to 4, edges 0-1, 1-2, 2-3 and 3-4, Levels 5 2 7 7 1.
 
+#![tactic(auto)]
+
 ghost use Rattle.std.specs.Prelude.{◌≡◌, [], ◌∷◌, None};
 ghost use Rattle.path_sheet.specs.PathSheet.{path, path_edges, Results};
 

@@ -3,6 +3,8 @@
 //! The cuts of the chains ([`PresenceCut`], [`LevelCut`], [`ReversedLevelCut`]) and the class pick ([`ClassPick`]) are readings
 //! ([`Reading`]) to presences.
 
+#![tactic(auto)]
+
 mod cuts;
 mod level_cuts;
 mod picks;

@@ -1,5 +1,7 @@
 //! The weights of a graph as buffers of byte records, and back.
 
+#![tactic(auto)]
+
 mod decoding;
 mod encoding;
 mod judging;

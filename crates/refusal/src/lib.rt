@@ -4,6 +4,8 @@
 //! (which record, word or byte breaks it, counted from 0; 0 where the rule names none) and a part (what kind of input is at
 //! fault). `docs/refusals.md` has the whole table.
 
+#![tactic(auto)]
+
 ghost use Rattle.std.specs.Prelude.{◌≡◌};
 ghost use Rattle.refusal.specs.Reports.{report};
 

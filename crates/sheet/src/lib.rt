@@ -1,5 +1,7 @@
 //! Sheets: the weights of a graph, worked on by calls in two states.
 
+#![tactic(auto)]
+
 mod holding;
 mod opening;
 mod reading;

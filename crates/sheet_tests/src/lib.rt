@@ -1,5 +1,7 @@
 //! Examples of sheets: every call, its refusals and whole stories.
 
+#![tactic(auto)]
+
 #[cfg(test)]
 mod buffers;
 #[cfg(test)]

@@ -4,6 +4,8 @@
 //! `specs/Calls.antt`, which the contracts of the sheet's calls cite as the stories do. The functions do nothing: calls of a sheet
 //! call them and promise the same.
 
+#![tactic(auto)]
+
 ghost use Rattle.stories.specs.Cases.{SmallStories};
 ghost use Rattle.stories.specs.Statements.{CallsAnswered, RefusalsChangeNothing, RunsGoWordByWord, StoriesCommute, StoriesAdjoint, StoriesAbsorb};
 

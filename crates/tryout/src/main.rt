@@ -1,6 +1,8 @@
 //! Runs a recipe on the path sheet: reads the recipe from standard input, drops one final newline, and prints the vertex weights on
 //! one line and the edge weights on the next; or one line, `refused NUMBER PLACE`.
 
+#![tactic(auto)]
+
 use filters::WeightsMut;
 use graph::{Edge, Graph, judge};
 use lattice::{Kind, Level};

@@ -1,6 +1,8 @@
 //! The worked example, from files to figures: checks a graph file, opens a sheet of Levels on it, opens the weights by O1, prints
 //! them, and prints where they reach 5.
 
+#![tactic(auto)]
+
 use filters::{Weights, WeightsMut};
 use graph::{Edge, Graph, check_file, judge};
 use lattice::{Kind, Level, Presence};
