@@ -30,7 +30,7 @@ fn check_record(n: usize, k: usize, last: Option<Edge>, e: Edge) -> Result<(), R
 
 /// Judges every record, first to last.
 fn check_records<R: Records>(n: usize, records: &R) -> Result<(), Refusal>
-    ensures { answer result ≡ records_verdict n 0 None (rows records.now) }
+    ensures { answer result ≡ records_verdict n 0 None (R.rows records.now) }
 {
     let mut last = None;
     for k in 0..records.count() {
@@ -43,8 +43,8 @@ fn check_records<R: Records>(n: usize, records: &R) -> Result<(), Refusal>
 
 /// Writes every record to an edge table.
 fn copy_records<R: Records>(records: &R, table: &mut [Edge])
-    requires { length table.old ≡ length (rows records.now) }
-    ensures { table.new ≡ rows records.now }
+    requires { length table.old ≡ length (R.rows records.now) }
+    ensures { table.new ≡ R.rows records.now }
 {
     for k in 0..records.count() {
         table[k] = records.at(k);

@@ -7,5 +7,5 @@ use Rattle.graph.proofs.judging.accept_bytes.Goals as goal
 
 pub returns : goal.returns
 returns c =
-    let said = c.check-bytes.ensures in
+    let said = c.check_bytes.ensures in
     record { verdict = said; judged = file_judged _ _ _ _ said; read_back = λ es same. ap file_records same ∙ round_trip es }

@@ -4,6 +4,6 @@ use Rattle.graph.proofs.judging.accept_table.Goals as goal
 
 pub returns : goal.returns
 returns c =
-    let said = c.check-table.ensures in
+    let said = c.check_table.ensures in
     let right = judged _ _ _ said in
     record { verdict = said; judged = right; sound = judged_made _ _ _ right }

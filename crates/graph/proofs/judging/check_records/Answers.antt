@@ -9,14 +9,14 @@ pub loop-k-preserved : goal.loop-k-preserved
 loop-k-preserved g c =
     let es = g.R.Records.rows c.args.records.now in
     let within : c.loop-k.k < length es = omega arith in
-    records_more c.args.n c.loop-k.k c.loop-k.last es c.at-e.result (accepted tt) _ within (c.at-e.ensures _) c.in-ok-check-record.ensures c.loop-k.invariant
+    records_more c.args.n c.loop-k.k c.loop-k.last es c.at-e.result (accepted tt) _ within (c.at-e.ensures _) c.in_ok-check_record.ensures c.loop-k.invariant
 
-pub returns-in-err-check-record : goal.returns-in-err-check-record
-returns-in-err-check-record g c =
+pub returns-in_err-check_record : goal.returns-in_err-check_record
+returns-in_err-check_record g c =
     let es = g.R.Records.rows c.args.records.now in
     let within : c.loop-k.k < length es = omega arith in
-    let p = err_from_is_err_and c.from-residual.result c.from-residual.ensures.1 in
-    rw (p.1, p.2) (records_more c.args.n c.loop-k.k c.loop-k.last es c.at-e.result _ _ within (c.at-e.ensures _) c.in-err-check-record.ensures c.loop-k.invariant)
+    let p = err_from_is_err_and c.from_residual.result c.from_residual.ensures.1 in
+    rw (p.1, p.2) (records_more c.args.n c.loop-k.k c.loop-k.last es c.at-e.result _ _ within (c.at-e.ensures _) c.in_err-check_record.ensures c.loop-k.invariant)
 
 pub returns : goal.returns
 returns g c =

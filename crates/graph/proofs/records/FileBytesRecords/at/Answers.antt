@@ -4,8 +4,8 @@ use Rattle.std.proofs.lemmas.List.FromFn.{length-map-range_with_len, get_or-map-
 use Rattle.graph.specs.Files.{record_at}
 use Rattle.graph.proofs.records.FileBytesRecords.at.Goals as goal
 
-pub read-record-requires : goal.read-record-requires
-read-record-requires c =
+pub read_record-requires : goal.read_record-requires
+read_record-requires c =
     let bytes = c.args.self.now.0.now in
     let below : c.args.k < length bytes / 8 = rw length-map-range_with_len at c.requires in
     omega arith
@@ -14,4 +14,4 @@ pub returns : goal.returns
 returns c d =
     let bytes = c.args.self.now.0.now in
     let below : c.args.k < length bytes / 8 = rw length-map-range_with_len at c.requires in
-    c.read-record.ensures ∙ sym (get_or-map-range_with_len (record_at bytes) 0 (length bytes / 8) c.args.k c.args.k d below (omega arith))
+    c.read_record.ensures ∙ sym (get_or-map-range_with_len (record_at bytes) 0 (length bytes / 8) c.args.k c.args.k d below (omega arith))
