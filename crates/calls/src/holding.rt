@@ -37,7 +37,7 @@ pub fn combine_held<S: Semilattice<K>, K: Kind>(
     weights: WeightsMut<'_, '_, K>,
     held: WeightsMut<'_, '_, K>,
 ) -> Result<(), Refusal>
-    ensures { outcome (answer result) (weights_after weights.exit) (weights_after held.exit) ≡ combine_call side.combine operations (shape_of graph.now) (weights_before weights.entry) (weights_before held.entry) }
+    ensures { outcome (answer result) (weights_after weights.exit) (weights_after held.exit) ≡ combine_call S.side.combine K.operations (shape_of graph.now) (weights_before weights.entry) (weights_before held.entry) }
 {
     let WeightsMut { vertices, edges } = weights;
     let WeightsMut {
@@ -58,7 +58,7 @@ pub fn forget_held<K: Kind>(
     weights: Weights<'_, '_, K>,
     held: WeightsMut<'_, '_, K>,
 ) -> Result<(), Refusal>
-    ensures { outcome (answer result) (weights_in weights.entry) (weights_after held.exit) ≡ forget_call operations (shape_of graph.now) (weights_in weights.entry) (weights_before held.entry) }
+    ensures { outcome (answer result) (weights_in weights.entry) (weights_after held.exit) ≡ forget_call K.operations (shape_of graph.now) (weights_in weights.entry) (weights_before held.entry) }
 {
     let WeightsMut { vertices, edges } = held;
     if !both_fit(graph, weights.vertices, weights.edges, vertices, edges) {

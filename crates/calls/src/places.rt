@@ -9,7 +9,7 @@ use readings::Reading;
 /// Combines each weight with the held one at its place.
 pub(crate) fn combine_each<S: Semilattice<K>, K: Copy>(weights: &mut [K], held: &[K])
     requires { length held.now ≡ length weights.old }
-    ensures { weights.new ≡ each side.combine weights.old held.now }
+    ensures { weights.new ≡ each S.side.combine weights.old held.now }
 {
     for i in 0..weights.len() {
         weights[i] = S::combine(weights[i], held[i]);
@@ -19,7 +19,7 @@ pub(crate) fn combine_each<S: Semilattice<K>, K: Copy>(weights: &mut [K], held: 
 /// Writes the image of each weight.
 pub(crate) fn read_each<R: Reading>(reading: &R, weights: &[R::Source], images: &mut [R::Target])
     requires { length images.old ≡ length weights.now }
-    ensures { images.new ≡ map (image reading.now) weights.now }
+    ensures { images.new ≡ map (R.image reading.now) weights.now }
 {
     for i in 0..weights.len() {
         images[i] = reading.read(weights[i]);

@@ -21,7 +21,7 @@ pub fn read_weights<K: Kind, R: Reading<Source = K>>(
     weights: Weights<'_, '_, K>,
     images: WeightsMut<'_, '_, R::Target>,
 ) -> Result<(), Refusal>
-    ensures { reads (answer result) (weights_after images.exit) ≡ read_call (image reading.now) (shape_of graph.now) (weights_in weights.entry) (weights_before images.entry) }
+    ensures { reads (answer result) (weights_after images.exit) ≡ read_call (R.image reading.now) (shape_of graph.now) (weights_in weights.entry) (weights_before images.entry) }
 {
     let WeightsMut { vertices, edges } = images;
     if !both_fit(graph, weights.vertices, weights.edges, vertices, edges) {

@@ -10,7 +10,7 @@ use lattice::Kind;
 
 /// Makes a pair of buffers all lowest.
 pub(crate) fn make_lowest<K: Kind>(vertices: &mut [K], edges: &mut [K])
-    ensures { weighting vertices.new edges.new ≡ blank operations (weighting vertices.old edges.old) }
+    ensures { weighting vertices.new edges.new ≡ blank K.operations (weighting vertices.old edges.old) }
 {
     fill(vertices, K::lowest());
     fill(edges, K::lowest());
@@ -25,7 +25,7 @@ pub(crate) fn combine<S: Semilattice<K>, K: Copy>(
 )
     requires vertices { length held_vertices.now ≡ length vertices.old }
     requires edges { length held_edges.now ≡ length edges.old }
-    ensures { weighting vertices.new edges.new ≡ combined side.combine (weighting vertices.old edges.old) (weighting held_vertices.now held_edges.now) }
+    ensures { weighting vertices.new edges.new ≡ combined S.side.combine (weighting vertices.old edges.old) (weighting held_vertices.now held_edges.now) }
 {
     combine_each::<S, K>(vertices, held_vertices);
     combine_each::<S, K>(edges, held_edges);

@@ -51,7 +51,7 @@ fn do_word<K: Kind>(
     requires edge_scratch { length edge_scratch.old ≡ length graph.now.edges.now }
     requires held_vertices { length held_vertices.old ≡ graph.now.n }
     requires held_edges { length held_edges.old ≡ length graph.now.edges.now }
-    ensures { pair (weighting vertices.new edges.new) (weighting held_vertices.new held_edges.new) ≡ word_done operations (shape_of graph.now) word (pair (weighting vertices.old edges.old) (weighting held_vertices.old held_edges.old)) }
+    ensures { pair (weighting vertices.new edges.new) (weighting held_vertices.new held_edges.new) ≡ word_done K.operations (shape_of graph.now) word (pair (weighting vertices.old edges.old) (weighting held_vertices.old held_edges.old)) }
 {
     match word {
         Word::Step(filter) => {
@@ -96,7 +96,7 @@ fn do_words<K: Kind, P: Progress>(
     requires edge_scratch { length edge_scratch.old ≡ length graph.now.edges.now }
     requires held_vertices { length held_vertices.old ≡ graph.now.n }
     requires held_edges { length held_edges.old ≡ length graph.now.edges.now }
-    ensures { pair (weighting vertices.new edges.new) (weighting held_vertices.new held_edges.new) ≡ words_done operations (shape_of graph.now) words.now (pair (weighting vertices.old edges.old) (weighting held_vertices.old held_edges.old)) }
+    ensures { pair (weighting vertices.new edges.new) (weighting held_vertices.new held_edges.new) ≡ words_done K.operations (shape_of graph.now) words.now (pair (weighting vertices.old edges.old) (weighting held_vertices.old held_edges.old)) }
 {
     for (i, word) in words.iter().enumerate() {
         do_word(
@@ -132,9 +132,9 @@ fn do_recipe<K: Kind, P: Progress>(
     requires edge_scratch { length edge_scratch.old ≡ length graph.now.edges.now }
     requires held_vertices { length held_vertices.old ≡ graph.now.n }
     requires held_edges { length held_edges.old ≡ length graph.now.edges.now }
-    ensures weights { weighting vertices.new edges.new ≡ done operations (shape_of graph.now) words.now (weighting vertices.old edges.old) nothing }
-    ensures scratch { weighting vertex_scratch.new edge_scratch.new ≡ blank operations (weighting vertex_scratch.old edge_scratch.old) }
-    ensures held { weighting held_vertices.new held_edges.new ≡ blank operations (weighting held_vertices.old held_edges.old) }
+    ensures weights { weighting vertices.new edges.new ≡ done K.operations (shape_of graph.now) words.now (weighting vertices.old edges.old) nothing }
+    ensures scratch { weighting vertex_scratch.new edge_scratch.new ≡ blank K.operations (weighting vertex_scratch.old edge_scratch.old) }
+    ensures held { weighting held_vertices.new held_edges.new ≡ blank K.operations (weighting held_vertices.old held_edges.old) }
 {
     do_words(
         words,
@@ -165,7 +165,7 @@ pub fn run_recipe<K: Kind, P: Progress>(
     held: WeightsMut<'_, '_, K>,
     progress: &mut P,
 ) -> Result<(), Refusal>
-    ensures { ran (answer result) (weights_after weights.exit) (weights_after scratch.exit) (weights_after held.exit) (recipe_words place.new) ≡ run_call operations (shape_of graph.now) text.now (weights_before weights.entry) (weights_before scratch.entry) (weights_before held.entry) (recipe_words place.old) }
+    ensures { ran (answer result) (weights_after weights.exit) (weights_after scratch.exit) (weights_after held.exit) (recipe_words place.new) ≡ run_call K.operations (shape_of graph.now) text.now (weights_before weights.entry) (weights_before scratch.entry) (weights_before held.entry) (recipe_words place.old) }
 {
     let WeightsMut { vertices, edges } = weights;
     let WeightsMut {

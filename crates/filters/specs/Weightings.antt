@@ -1,6 +1,6 @@
 -- The weights of a graph, and what the filters make of them. Assumes nothing.
 use Rattle.std.specs.Prelude.{◌≡◌, Bool, ◌&&◌, List, length, replicate, ◌==◌}
-use Rattle.std.specs.Borrow.{Bor}
+use Rattle.std.specs.Borrow.{MutBor}
 use Rattle.lattice.specs.Lattices.{Operations}
 use Rattle.graph.specs.Shapes.{Shape}
 use Rattle.filters.specs.Passes.{joins, meets, pass_to_edges, pass_to_vertices}
@@ -61,5 +61,5 @@ abbrev pub weights_before : {K : Type 0} → WeightsMut K → Weighting K
 weights_before b = weighting b.vertices.now b.edges.now
 
 -- what they hold at the return
-abbrev pub weights_after : {K : Type 0} → Bor (List K) × (Bor (List K) × Unit {0}) → Weighting K
+abbrev pub weights_after : {K : Type 0} → MutBor (List K) × (MutBor (List K) × Unit {0}) → Weighting K
 weights_after b = weighting b.0.now b.1.0.now

@@ -22,8 +22,8 @@ fn open<K: Kind>(size: u32, graph: &Graph, vertices: &mut [K], edges: &mut [K], 
     requires vertices { length vertices.old ≡ graph.now.n }
     requires edges { length edges.old ≡ length graph.now.edges.now }
     requires scratch { length scratch.old ≡ graph.now.n }
-    ensures vertices { vertices.new ≡ opened (vertex_rounds operations (shape_of graph.now)) size vertices.old }
-    ensures edges { edges.new ≡ opened (edge_rounds operations (shape_of graph.now)) size edges.old }
+    ensures vertices { vertices.new ≡ opened (vertex_rounds K.operations (shape_of graph.now)) size vertices.old }
+    ensures edges { edges.new ≡ opened (edge_rounds K.operations (shape_of graph.now)) size edges.old }
 {
     rounds::<Meets, Meets, K>(size / 2, graph, vertices, edges, scratch);
     rounds::<Meets, Joins, K>(size % 2, graph, vertices, edges, scratch);
@@ -35,8 +35,8 @@ fn close<K: Kind>(size: u32, graph: &Graph, vertices: &mut [K], edges: &mut [K],
     requires vertices { length vertices.old ≡ graph.now.n }
     requires edges { length edges.old ≡ length graph.now.edges.now }
     requires scratch { length scratch.old ≡ graph.now.n }
-    ensures vertices { vertices.new ≡ closed (vertex_rounds operations (shape_of graph.now)) size vertices.old }
-    ensures edges { edges.new ≡ closed (edge_rounds operations (shape_of graph.now)) size edges.old }
+    ensures vertices { vertices.new ≡ closed (vertex_rounds K.operations (shape_of graph.now)) size vertices.old }
+    ensures edges { edges.new ≡ closed (edge_rounds K.operations (shape_of graph.now)) size edges.old }
 {
     rounds::<Joins, Joins, K>(size / 2, graph, vertices, edges, scratch);
     rounds::<Joins, Meets, K>(size % 2, graph, vertices, edges, scratch);
@@ -55,8 +55,8 @@ fn alternate<K: Kind>(
     requires vertices { length vertices.old ≡ graph.now.n }
     requires edges { length edges.old ≡ length graph.now.edges.now }
     requires scratch { length scratch.old ≡ graph.now.n }
-    ensures vertices { vertices.new ≡ alternated (vertex_rounds operations (shape_of graph.now)) size vertices.old }
-    ensures edges { edges.new ≡ alternated (edge_rounds operations (shape_of graph.now)) size edges.old }
+    ensures vertices { vertices.new ≡ alternated (vertex_rounds K.operations (shape_of graph.now)) size vertices.old }
+    ensures edges { edges.new ≡ alternated (edge_rounds K.operations (shape_of graph.now)) size edges.old }
 {
     for done in 0..size {
         close(done + 1, graph, vertices, edges, scratch);
@@ -76,8 +76,8 @@ fn transform<K: Kind>(
     requires vertices { length vertices.old ≡ graph.now.n }
     requires edges { length edges.old ≡ length graph.now.edges.now }
     requires scratch { length scratch.old ≡ graph.now.n }
-    ensures vertices { vertices.new ≡ filter_by (vertex_rounds operations (shape_of graph.now)) filter.family filter.size vertices.old }
-    ensures edges { edges.new ≡ filter_by (edge_rounds operations (shape_of graph.now)) filter.family filter.size edges.old }
+    ensures vertices { vertices.new ≡ filter_by (vertex_rounds K.operations (shape_of graph.now)) filter.family filter.size vertices.old }
+    ensures edges { edges.new ≡ filter_by (edge_rounds K.operations (shape_of graph.now)) filter.family filter.size edges.old }
 {
     let size = filter.size;
     match filter.family {
@@ -99,7 +99,7 @@ impl Filter {
         weights: WeightsMut<'_, '_, K>,
         scratch: WeightsMut<'_, '_, K>,
     ) -> Result<(), Refusal>
-        ensures { outcome (answer result) (weights_after weights.exit) (weights_after scratch.exit) ≡ filter_call operations (shape_of graph.now) self (weights_before weights.entry) (weights_before scratch.entry) }
+        ensures { outcome (answer result) (weights_after weights.exit) (weights_after scratch.exit) ≡ filter_call K.operations (shape_of graph.now) self (weights_before weights.entry) (weights_before scratch.entry) }
     {
         let WeightsMut { vertices, edges } = weights;
         let WeightsMut {

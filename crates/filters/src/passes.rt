@@ -26,7 +26,7 @@ pub fn fill<K: Copy>(weights: &mut [K], weight: K)
 fn gather<S: Semilattice<K>, K: Copy>(table: &[Edge], vertices: &[K], edges: &mut [K])
     requires within { AllWithin (length vertices.now) table.now }
     requires along { length edges.old ≡ length table.now }
-    ensures { edges.new ≡ pass_to_edges side (shape (length vertices.now) table.now) vertices.now }
+    ensures { edges.new ≡ pass_to_edges S.side (shape (length vertices.now) table.now) vertices.now }
 {
     for (i, e) in table.iter().enumerate() {
         edges[i] = S::combine(vertices[e.first as usize], vertices[e.second as usize]);
@@ -37,7 +37,7 @@ fn gather<S: Semilattice<K>, K: Copy>(table: &[Edge], vertices: &[K], edges: &mu
 fn scatter<S: Semilattice<K>, K: Copy>(table: &[Edge], edges: &[K], vertices: &mut [K])
     requires within { AllWithin (length vertices.old) table.now }
     requires along { length edges.now ≡ length table.now }
-    ensures { vertices.new ≡ pass_to_vertices side (shape (length vertices.old) table.now) edges.now }
+    ensures { vertices.new ≡ pass_to_vertices S.side (shape (length vertices.old) table.now) edges.now }
 {
     fill(vertices, S::neutral());
     for (i, e) in table.iter().enumerate() {
@@ -55,7 +55,7 @@ fn to_edges<S: Semilattice<K>, K: Copy>(
     vertices: &[K],
     edges: &mut [K],
 ) -> Result<(), Refusal>
-    ensures { passed (answer result) edges.new ≡ to_edges_call side (shape_of graph.now) vertices.now edges.old }
+    ensures { passed (answer result) edges.new ≡ to_edges_call S.side (shape_of graph.now) vertices.now edges.old }
 {
     if !fits(graph, vertices, edges) {
         return Err(Refusal::WeightBufferLength);
@@ -70,7 +70,7 @@ fn to_vertices<S: Semilattice<K>, K: Copy>(
     edges: &[K],
     vertices: &mut [K],
 ) -> Result<(), Refusal>
-    ensures { passed (answer result) vertices.new ≡ to_vertices_call side (shape_of graph.now) edges.now vertices.old }
+    ensures { passed (answer result) vertices.new ≡ to_vertices_call S.side (shape_of graph.now) edges.now vertices.old }
 {
     if !fits(graph, vertices, edges) {
         return Err(Refusal::WeightBufferLength);
@@ -81,14 +81,14 @@ fn to_vertices<S: Semilattice<K>, K: Copy>(
 
 /// Gives each edge the join of the weights of its ends. Refused where a buffer has the wrong length; then no weight changes.
 pub fn join_to_edges<K: Kind>(graph: &Graph, vertices: &[K], edges: &mut [K]) -> Result<(), Refusal>
-    ensures { passed (answer result) edges.new ≡ to_edges_call (joins operations) (shape_of graph.now) vertices.now edges.old }
+    ensures { passed (answer result) edges.new ≡ to_edges_call (joins K.operations) (shape_of graph.now) vertices.now edges.old }
 {
     to_edges::<Joins, K>(graph, vertices, edges)
 }
 
 /// Gives each edge the meet of the weights of its ends. Refused where a buffer has the wrong length; then no weight changes.
 pub fn meet_to_edges<K: Kind>(graph: &Graph, vertices: &[K], edges: &mut [K]) -> Result<(), Refusal>
-    ensures { passed (answer result) edges.new ≡ to_edges_call (meets operations) (shape_of graph.now) vertices.now edges.old }
+    ensures { passed (answer result) edges.new ≡ to_edges_call (meets K.operations) (shape_of graph.now) vertices.now edges.old }
 {
     to_edges::<Meets, K>(graph, vertices, edges)
 }
@@ -100,7 +100,7 @@ pub fn join_to_vertices<K: Kind>(
     edges: &[K],
     vertices: &mut [K],
 ) -> Result<(), Refusal>
-    ensures { passed (answer result) vertices.new ≡ to_vertices_call (joins operations) (shape_of graph.now) edges.now vertices.old }
+    ensures { passed (answer result) vertices.new ≡ to_vertices_call (joins K.operations) (shape_of graph.now) edges.now vertices.old }
 {
     to_vertices::<Joins, K>(graph, edges, vertices)
 }
@@ -112,7 +112,7 @@ pub fn meet_to_vertices<K: Kind>(
     edges: &[K],
     vertices: &mut [K],
 ) -> Result<(), Refusal>
-    ensures { passed (answer result) vertices.new ≡ to_vertices_call (meets operations) (shape_of graph.now) edges.now vertices.old }
+    ensures { passed (answer result) vertices.new ≡ to_vertices_call (meets K.operations) (shape_of graph.now) edges.now vertices.old }
 {
     to_vertices::<Meets, K>(graph, edges, vertices)
 }

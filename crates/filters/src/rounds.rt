@@ -21,8 +21,8 @@ fn exchange<S: Semilattice<K>, K: Copy>(
     requires within { AllWithin (length giving.now) table.now }
     requires along { length edges.old ≡ length table.now }
     requires received { length receiving.old ≡ length giving.now }
-    ensures edges { edges.new ≡ pass_to_edges side (shape (length giving.now) table.now) giving.now }
-    ensures vertices { receiving.new ≡ pass_to_vertices side (shape (length giving.now) table.now) edges.old }
+    ensures edges { edges.new ≡ pass_to_edges S.side (shape (length giving.now) table.now) giving.now }
+    ensures vertices { receiving.new ≡ pass_to_vertices S.side (shape (length giving.now) table.now) edges.old }
 {
     fill(receiving, S::neutral());
     for (i, e) in table.iter().enumerate() {

@@ -43,7 +43,7 @@ impl<'g, 'e, K: Kind> Sheet<'g, 'e, K, Holding> {
         weights: WeightsMut<'_, '_, K>,
         held: WeightsMut<'_, '_, K>,
     ) -> Result<Sheet<'g, 'e, K, Clear>, Refused<Self>>
-        ensures buffers { outcome (moved result) (weights_after weights.exit) (weights_after held.exit) ≡ join_call operations (sheet_shape self.entry) (weights_before weights.entry) (weights_before held.entry) }
+        ensures buffers { outcome (moved result) (weights_after weights.exit) (weights_after held.exit) ≡ join_call K.operations (sheet_shape self.entry) (weights_before weights.entry) (weights_before held.entry) }
         ensures sheet { graph_after result ≡ self.entry.graph }
     {
         let WeightsMut { vertices, edges } = weights;
@@ -61,7 +61,7 @@ impl<'g, 'e, K: Kind> Sheet<'g, 'e, K, Holding> {
         weights: WeightsMut<'_, '_, K>,
         held: WeightsMut<'_, '_, K>,
     ) -> Result<Sheet<'g, 'e, K, Clear>, Refused<Self>>
-        ensures buffers { outcome (moved result) (weights_after weights.exit) (weights_after held.exit) ≡ meet_call operations (sheet_shape self.entry) (weights_before weights.entry) (weights_before held.entry) }
+        ensures buffers { outcome (moved result) (weights_after weights.exit) (weights_after held.exit) ≡ meet_call K.operations (sheet_shape self.entry) (weights_before weights.entry) (weights_before held.entry) }
         ensures sheet { graph_after result ≡ self.entry.graph }
     {
         let WeightsMut { vertices, edges } = weights;
@@ -79,7 +79,7 @@ impl<'g, 'e, K: Kind> Sheet<'g, 'e, K, Holding> {
         weights: Weights<'_, '_, K>,
         held: WeightsMut<'_, '_, K>,
     ) -> Result<Sheet<'g, 'e, K, Clear>, Refused<Self>>
-        ensures buffers { outcome (moved result) (weights_in weights.entry) (weights_after held.exit) ≡ forget_call operations (sheet_shape self.entry) (weights_in weights.entry) (weights_before held.entry) }
+        ensures buffers { outcome (moved result) (weights_in weights.entry) (weights_after held.exit) ≡ forget_call K.operations (sheet_shape self.entry) (weights_in weights.entry) (weights_before held.entry) }
         ensures sheet { graph_after result ≡ self.entry.graph }
     {
         let Weights { vertices, edges } = weights;

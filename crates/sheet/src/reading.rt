@@ -30,11 +30,11 @@ impl<'g, 'e, K: Kind, S> Sheet<'g, 'e, K, S> {
         weights: Weights<'_, '_, K>,
         images: WeightsMut<'_, '_, R::Target>,
     ) -> Result<(), Refusal>
-        ensures read { reads (answer result) (weights_after images.exit) ≡ read_call (image reading.now) (sheet_shape self.now) (weights_in weights.entry) (weights_before images.entry) }
+        ensures read { reads (answer result) (weights_after images.exit) ≡ read_call (R.image reading.now) (sheet_shape self.now) (weights_in weights.entry) (weights_before images.entry) }
         ensures answered { CallsAnswered K.Kind.operations × CallsAnswered R.Target.Kind.operations }
         ensures unchanged { RefusalsChangeNothing K.Kind.operations × RefusalsChangeNothing R.Target.Kind.operations }
         ensures word_by_word { RunsGoWordByWord K.Kind.operations × RunsGoWordByWord R.Target.Kind.operations }
-        ensures commute { StoriesCommute K.Kind.operations R.Target.Kind.operations (image reading.now) }
+        ensures commute { StoriesCommute K.Kind.operations R.Target.Kind.operations (R.image reading.now) }
         ensures adjoint { StoriesAdjoint K.Kind.below K.Kind.operations × StoriesAdjoint R.Target.Kind.below R.Target.Kind.operations }
         ensures absorb { StoriesAbsorb K.Kind.operations × StoriesAbsorb R.Target.Kind.operations }
     {

@@ -29,7 +29,7 @@ impl<'g, 'e, K: Kind> Sheet<'g, 'e, K, Clear> {
         held: WeightsMut<'_, '_, K>,
         progress: &mut P,
     ) -> Result<(), Refusal>
-        ensures { ran (answer result) (weights_after weights.exit) (weights_after scratch.exit) (weights_after held.exit) (recipe_words place.new) ≡ run_call operations (sheet_shape self.now) text.now (weights_before weights.entry) (weights_before scratch.entry) (weights_before held.entry) (recipe_words place.old) }
+        ensures { ran (answer result) (weights_after weights.exit) (weights_after scratch.exit) (weights_after held.exit) (recipe_words place.new) ≡ run_call K.operations (sheet_shape self.now) text.now (weights_before weights.entry) (weights_before scratch.entry) (weights_before held.entry) (recipe_words place.old) }
     {
         let WeightsMut { vertices, edges } = weights;
         let weights = WeightsMut { vertices, edges };
@@ -53,7 +53,7 @@ impl<'g, 'e, K: Kind> Sheet<'g, 'e, K, Clear> {
         scratch: WeightsMut<'_, '_, K>,
         held: WeightsMut<'_, '_, K>,
     ) -> Result<(), Refusal>
-        ensures { ran (answer result) (weights_after weights.exit) (weights_after scratch.exit) (weights_after held.exit) (recipe_words place.new) ≡ run_call operations (sheet_shape self.now) text.now (weights_before weights.entry) (weights_before scratch.entry) (weights_before held.entry) (recipe_words place.old) }
+        ensures { ran (answer result) (weights_after weights.exit) (weights_after scratch.exit) (weights_after held.exit) (recipe_words place.new) ≡ run_call K.operations (sheet_shape self.now) text.now (weights_before weights.entry) (weights_before scratch.entry) (weights_before held.entry) (recipe_words place.old) }
     {
         let WeightsMut { vertices, edges } = weights;
         let weights = WeightsMut { vertices, edges };

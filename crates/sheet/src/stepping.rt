@@ -27,12 +27,12 @@ impl<'g, 'e, K: Kind, S> Sheet<'g, 'e, K, S> {
         weights: WeightsMut<'_, '_, K>,
         scratch: WeightsMut<'_, '_, K>,
     ) -> Result<(), Refusal>
-        ensures step { outcome (answer result) (weights_after weights.exit) (weights_after scratch.exit) ≡ filter_call operations (sheet_shape self.now) filter (weights_before weights.entry) (weights_before scratch.entry) }
-        ensures answered { CallsAnswered operations }
-        ensures unchanged { RefusalsChangeNothing operations }
-        ensures word_by_word { RunsGoWordByWord operations }
-        ensures adjoint { StoriesAdjoint below operations }
-        ensures absorb { StoriesAbsorb operations }
+        ensures step { outcome (answer result) (weights_after weights.exit) (weights_after scratch.exit) ≡ filter_call K.operations (sheet_shape self.now) filter (weights_before weights.entry) (weights_before scratch.entry) }
+        ensures answered { CallsAnswered K.operations }
+        ensures unchanged { RefusalsChangeNothing K.operations }
+        ensures word_by_word { RunsGoWordByWord K.operations }
+        ensures adjoint { StoriesAdjoint K.below K.operations }
+        ensures absorb { StoriesAbsorb K.operations }
     {
         story_laws::<K>();
         let WeightsMut { vertices, edges } = weights;

@@ -16,16 +16,16 @@ use readings::Reading;
 /// of its words do; dilation and erosion of what stories leave are adjoint; openings absorb to the largest, closings likewise, and
 /// alternate filters of sizes that never fall to the last.
 pub fn story_laws<K: Kind>()
-    ensures answered { CallsAnswered operations }
-    ensures unchanged { RefusalsChangeNothing operations }
-    ensures word_by_word { RunsGoWordByWord operations }
-    ensures adjoint { StoriesAdjoint below operations }
-    ensures absorb { StoriesAbsorb operations }
+    ensures answered { CallsAnswered K.operations }
+    ensures unchanged { RefusalsChangeNothing K.operations }
+    ensures word_by_word { RunsGoWordByWord K.operations }
+    ensures adjoint { StoriesAdjoint K.below K.operations }
+    ensures absorb { StoriesAbsorb K.operations }
 {}
 
 /// To read and then go through a story is to go through it and then read, with the same answers.
 pub fn stories_commute<K: Kind, R: Reading<Source = K>>(reading: &R)
-    ensures { StoriesCommute K.Kind.operations Target-as-Kind.operations (image reading.now) }
+    ensures { StoriesCommute K.Kind.operations R.Target.Kind.operations (R.image reading.now) }
 {}
 
 /// Small cases of these statements, each from its statement alone and not from the laws of a lattice: a statement that says less

@@ -9,5 +9,5 @@ abbrev pub invariant-loop-done : goal.invariant-loop-done
 invariant-loop-done g l =
     let over = g.Over.Semilattice.side in
     let back = g.Back.Semilattice.side in
-    (l.vertices ≡ repeat (vertex_round over back (shape_of l.graph)) l.-done l.initial.vertices)
-    × (l.edges ≡ repeat (edge_round over back (shape_of l.graph)) l.-done l.initial.edges)
+    (l.vertices ≡ repeat (vertex_round over back (shape_of l.graph)) l._done l.initial.vertices)
+    × (l.edges ≡ repeat (edge_round over back (shape_of l.graph)) l._done l.initial.edges)
