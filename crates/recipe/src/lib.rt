@@ -2,6 +2,7 @@
 //!
 //! A recipe is at most 96 words. A filter is a letter and a size, as `O3`; `H` holds a copy of the weights, and `J`, `M` and `F`
 //! join it, meet it or forget it. `docs/recipes.md` has the grammar, and the order in which a text is judged.
+#![tactic(auto)]
 
 mod drafts;
 mod reading;

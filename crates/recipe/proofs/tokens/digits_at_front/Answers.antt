@@ -6,11 +6,11 @@ use Rattle.recipe.specs.Shapes.{is_digit, digit_run}
 use Rattle.recipe.proofs.tokens.digits_at_front.Goals as goal
 
 pub loop-i-preserved : goal.loop-i-preserved
-loop-i-preserved c = omega (arith, c.loop-i.invariant, front_more is_digit c.args.bytes.now c.loop-i.i c.loop-i-test.true (sym c.if-not-is-digit.ensures))
+loop-i-preserved c = omega (arith, c.loop-i.invariant, front_more is_digit c.args.bytes.now c.loop-i.i c.loop-i-test.true (sym c.if-not-is_digit.ensures))
 
-pub returns-then-not-is-digit : goal.returns-then-not-is-digit
-returns-then-not-is-digit c = record {
-  is = omega (arith, c.loop-i.invariant, front_stop is_digit c.args.bytes.now c.loop-i.i c.loop-i-test.true (sym c.if-not-is-digit.ensures));
+pub returns-then-not-is_digit : goal.returns-then-not-is_digit
+returns-then-not-is_digit c = record {
+  is = omega (arith, c.loop-i.invariant, front_stop is_digit c.args.bytes.now c.loop-i.i c.loop-i-test.true (sym c.if-not-is_digit.ensures));
   within = omega arith;
 }
 

@@ -11,6 +11,6 @@ pub returns : goal.returns
 returns t c =
     let step = length_step c.args.number c.if-number-lt10.false (omega arith) in
     record {
-      is = omega (arith, c.number-len.ensures.is, step);
-      small = omega (arith, c.number-len.ensures.is, step, length-decimal-le 10 c.args.number (omega arith) (omega arith) (omega arith));
+      is = omega (arith, c.number_len.ensures.is, step);
+      small = omega (arith, c.number_len.ensures.is, step, length-decimal-le 10 c.args.number (omega arith) (omega arith) (omega arith));
     }

@@ -1,5 +1,5 @@
 -- The choices for writing::put_number: its measure.
 use Rattle.recipe.proofs.writing.+put_number.Given as goal
 
-abbrev pub decreases-put-number : goal.decreases-put-number
-decreases-put-number l = l.number
+abbrev pub decreases-put_number : goal.decreases-put_number
+decreases-put_number l = l.number

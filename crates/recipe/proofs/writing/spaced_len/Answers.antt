@@ -8,8 +8,8 @@ use Rattle.recipe.proofs.writing.spaced_len.Goals as goal
 
 pub loop-word-preserved : goal.loop-word-preserved
 loop-word-preserved c = (
-  omega (arith, c.loop-word.invariant.0, c.word-len.ensures.is, length_next c.args.words.now c.loop-word.word-index past c.loop-word-test.true),
-  omega (arith, c.word-len.ensures.small),
+  omega (arith, c.loop-word.invariant.0, c.word_len.ensures.is, length_next c.args.words.now c.loop-word.word-index past c.loop-word-test.true),
+  omega (arith, c.word_len.ensures.small),
 )
 
 pub returns : goal.returns

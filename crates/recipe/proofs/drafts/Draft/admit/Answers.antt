@@ -5,13 +5,13 @@ use Rattle.recipe.specs.Judging.{progress}
 use Rattle.recipe.proofs.Admitting.{full, turns, taken}
 use Rattle.recipe.proofs.drafts.Draft.admit.Goals as goal
 
-pub returns-then-self-ge-MAX-WORDS : goal.returns-then-self-ge-MAX-WORDS
-returns-then-self-ge-MAX-WORDS c =
+pub returns-then-self-ge-MAX_WORDS : goal.returns-then-self-ge-MAX_WORDS
+returns-then-self-ge-MAX_WORDS c =
     full c.args.at c.args.word (progress c.args.self.now) (simp length-take (omega (arith, c.args.self.now.whole)))
 
-pub returns-in-default : goal.returns-in-default
-returns-in-default c =
-    turns c.args.at c.args.word (progress c.args.self.now) _ (simp length-take (omega (arith, c.args.self.now.whole))) c.in-default.ensures
+pub returns-in_default : goal.returns-in_default
+returns-in_default c =
+    turns c.args.at c.args.word (progress c.args.self.now) _ (simp length-take (omega (arith, c.args.self.now.whole))) c.in_default.ensures
 
 pub returns : goal.returns
 returns c =

@@ -18,18 +18,18 @@ use Rattle.recipe.proofs.Meaning.{sound}
 use Rattle.recipe.proofs.Accepting.{accepted_text, text_accepted}
 use Rattle.recipe.proofs.Running.{over_space, read_word_here, refused_stays, judged, judged_long}
 use Rattle.recipe.proofs.recipes.Recipe.read.Goals as goal
-use Rattle.recipe.proofs.recipes.Recipe.read.Goals.{After-read-word, After-loop-at}
+use Rattle.recipe.proofs.recipes.Recipe.read.Goals.{After-read_word, After-loop-at}
 
 -- the words after the one that was read
-abbrev later : After-read-word → List Run
-later c = runs c.word-end-end.result (drop c.word-end-end.result c.args.text.now)
+abbrev later : After-read_word → List Run
+later c = runs c.word_end-end.result (drop c.word_end-end.result c.args.text.now)
 
 -- they give the answer from what the word was read as
-turn : (c : After-read-word) (r : Result Word Refusal) → c.read-word.result ≡ r → read_runs (accepted start) (runs 0 c.args.text.now) ≡ read_runs (admitted_word c.loop-at.at (answer r) (progress c.loop-at.draft)) (later c)
+turn : (c : After-read_word) (r : Result Word Refusal) → c.read_word.result ≡ r → read_runs (accepted start) (runs 0 c.args.text.now) ≡ read_runs (admitted_word c.loop-at.at (answer r) (progress c.loop-at.draft)) (later c)
 turn c r e =
     sym c.loop-at.invariant.1
-    ∙ read_word_here c.args.text.now c.loop-at.at c.loop-at-test.true (progress c.loop-at.draft) c.word-end-end.result c.if-text-at-eq32.false c.word-end-end.ensures.is
-    ∙ ap (λ w. read_runs (admitted_word c.loop-at.at w (progress c.loop-at.draft)) (later c)) (sym c.read-word.ensures ∙ ap answer e)
+    ∙ read_word_here c.args.text.now c.loop-at.at c.loop-at-test.true (progress c.loop-at.draft) c.word_end-end.result c.if-text-at-eq32.false c.word_end-end.ensures.is
+    ∙ ap (λ w. read_runs (admitted_word c.loop-at.at w (progress c.loop-at.draft)) (later c)) (sym c.read_word.ensures ∙ ap answer e)
 
 -- at the end the draft is the answer
 done : (c : After-loop-at) → read_runs (accepted start) (runs 0 c.args.text.now) ≡ accepted (progress c.loop-at.draft)
@@ -47,8 +47,8 @@ every text r same = record {
   refusals = λ n place p. (λ h. refused_why text n place p (sym same ∙ h), λ f. same ∙ refused_judge text n place p f);
 }
 
-pub returns-then-text-gt-MAX-TEXT-LEN : goal.returns-then-text-gt-MAX-TEXT-LEN
-returns-then-text-gt-MAX-TEXT-LEN c = every c.args.text.now (Err refusal.TextTooLong) (judged_long c.args.text.now c.if-text-gt-MAX-TEXT-LEN.true)
+pub returns-then-text-gt-MAX_TEXT_LEN : goal.returns-then-text-gt-MAX_TEXT_LEN
+returns-then-text-gt-MAX_TEXT_LEN c = every c.args.text.now (Err refusal.TextTooLong) (judged_long c.args.text.now c.if-text-gt-MAX_TEXT_LEN.true)
 
 pub loop-at-preserved-then-text-at-eq32 : goal.loop-at-preserved-then-text-at-eq32
 loop-at-preserved-then-text-at-eq32 c = (
@@ -56,27 +56,27 @@ loop-at-preserved-then-text-at-eq32 c = (
   ap (read_runs (accepted (progress c.loop-at.draft))) (sym (over_space c.args.text.now c.loop-at.at c.loop-at-test.true c.if-text-at-eq32.true)) ∙ c.loop-at.invariant.1,
 )
 
-pub returns-in-err-word : goal.returns-in-err-word
-returns-in-err-word c =
-    let p = err_from_is_err_and c.from-residual.result c.from-residual.ensures.1 in
+pub returns-in_err-word : goal.returns-in_err-word
+returns-in_err-word c =
+    let p = err_from_is_err_and c.from_residual.result c.from_residual.ensures.1 in
     let short : length c.args.text.now ≤ 4096 = omega arith in
-    let before = (goal.at.returns-in-err-word c).After-read-word in
+    let before = (goal.at.returns-in_err-word c).After-read_word in
     every _ _ (rw (p.1, p.2)
-    (judged c.args.text.now (refusal_answer c.in-err-word.field-0.0) short (turn before _ c.in-err-word.was ∙ refused_stays _ _ _ (later before))))
+    (judged c.args.text.now (refusal_answer c.in_err-word.field-0.0) short (turn before _ c.in_err-word.was ∙ refused_stays _ _ _ (later before))))
 
-pub returns-in-err-admit : goal.returns-in-err-admit
-returns-in-err-admit c =
-    let p = err_from_is_err_and c.from-residual-in-err-admit.result c.from-residual-in-err-admit.ensures.1 in
+pub returns-in_err-admit : goal.returns-in_err-admit
+returns-in_err-admit c =
+    let p = err_from_is_err_and c.from_residual-in_err-admit.result c.from_residual-in_err-admit.ensures.1 in
     let short : length c.args.text.now ≤ 4096 = omega arith in
-    let before = (goal.at.returns-in-err-admit c).After-read-word in
+    let before = (goal.at.returns-in_err-admit c).After-read_word in
     every _ _ (rw (p.1, p.2)
-    (judged c.args.text.now (refusal_answer c.in-err-admit.field-0.0) short
-    (turn before _ c.in-ok-word.was ∙ ap (λ q. read_runs q (later before)) (sym c.in-err-admit.ensures) ∙ refused_stays _ _ _ (later before))))
+    (judged c.args.text.now (refusal_answer c.in_err-admit.field-0.0) short
+    (turn before _ c.in_ok-word.was ∙ ap (λ q. read_runs q (later before)) (sym c.in_err-admit.ensures) ∙ refused_stays _ _ _ (later before))))
 
 pub loop-at-preserved : goal.loop-at-preserved
 loop-at-preserved c =
-    let before = (goal.at.loop-at-preserved c).After-read-word in
-    (c.word-end-end.ensures.within, ap (λ q. read_runs q (later before)) c.in-ok-admit.ensures ∙ sym (turn before _ c.in-ok-word.was))
+    let before = (goal.at.loop-at-preserved c).After-read_word in
+    (c.word_end-end.ensures.within, ap (λ q. read_runs q (later before)) c.in_ok-admit.ensures ∙ sym (turn before _ c.in_ok-word.was))
 
 pub finish-requires : goal.finish-requires
 finish-requires c free = sound (runs 0 c.args.text.now) (progress c.loop-at.draft) (done (goal.at.finish-requires c).After-loop-at) free

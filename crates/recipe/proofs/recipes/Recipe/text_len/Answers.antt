@@ -7,4 +7,4 @@ use Rattle.recipe.proofs.recipes.Recipe.text_len.Goals as goal
 pub returns-in-len1-up : goal.returns-in-len1-up
 returns-in-len1-up c =
     let some : 0 < length c.words.result.now = search rules in
-    omega (arith, c.word-len.ensures.is, c.spaced-len.ensures.is, length_written c.words.result.now some, ap (λ ws. length (written ws)) c.words.ensures.is)
+    omega (arith, c.word_len.ensures.is, c.spaced_len.ensures.is, length_written c.words.result.now some, ap (λ ws. length (written ws)) c.words.ensures.is)

@@ -30,31 +30,31 @@ all recipe buffer r exit is over =
       belongs = subst (λ l. IfOk r (λ n. Text (take n l) ws)) (sym over) (front_holds (λ l. Text l ws) (written ws) buffer text r is);
     }
 
-pub put-word-at-requires : goal.put-word-at-requires
-put-word-at-requires c =
+pub put_word-at-requires : goal.put_word-at-requires
+put_word-at-requires c =
     let some : 0 < length c.words.result.now = search rules in
     let same = ap (λ ws. length (written ws)) c.words.ensures.is in
-    omega (arith, c.text-len.ensures, c.if-buffer-text-len.false, same, length_written c.words.result.now some)
+    omega (arith, c.text_len.ensures, c.if-buffer-text_len.false, same, length_written c.words.result.now some)
 
-pub put-all-spaced-requires : goal.put-all-spaced-requires
-put-all-spaced-requires c =
+pub put_all_spaced-requires : goal.put_all_spaced-requires
+put_all_spaced-requires c =
     let some : 0 < length c.words.result.now = search rules in
     let same = ap (λ ws. length (written ws)) c.words.ensures.is in
-    omega (arith, c.put-word-at.ensures.next, c.put-word-at.auto.buffer, c.text-len.ensures, c.if-buffer-text-len.false, same, length_written c.words.result.now some)
+    omega (arith, c.put_word-at.ensures.next, c.put_word-at.auto.buffer, c.text_len.ensures, c.if-buffer-text_len.false, same, length_written c.words.result.now some)
 
-pub returns-then-buffer-text-len : goal.returns-then-buffer-text-len
-returns-then-buffer-text-len c = record { is = search rules; after = search rules; back = tt; belongs = tt }
+pub returns-then-buffer-text_len : goal.returns-then-buffer-text_len
+returns-then-buffer-text_len c = record { is = search rules; after = search rules; back = tt; belongs = tt }
 
 pub returns-in-len1-up : goal.returns-in-len1-up
 returns-in-len1-up c =
     let some : 0 < length c.words.result.now = search rules in
     let same = ap (λ ws. length (written ws)) c.words.ensures.is in
-    let completes : length (written c.words.result.now) ≤ length c.args.buffer.now = omega (arith, c.text-len.ensures, c.if-buffer-text-len.false, same) in
-    all c.args.self.now c.args.buffer.now (Ok c.put-all-spaced.result) c.put-all-spaced.new.buffer
-    (ap accepted (omega (arith, c.put-all-spaced.ensures.next, c.put-word-at.ensures.next, length_written c.words.result.now some))
+    let completes : length (written c.words.result.now) ≤ length c.args.buffer.now = omega (arith, c.text_len.ensures, c.if-buffer-text_len.false, same) in
+    all c.args.self.now c.args.buffer.now (Ok c.put_all_spaced.result) c.put_all_spaced.new.buffer
+    (ap accepted (omega (arith, c.put_all_spaced.ensures.next, c.put_word-at.ensures.next, length_written c.words.result.now some))
     ∙ sym (whole_answer c.words.result.now some c.args.buffer.now completes)
     ∙ ap (λ ws. write_answer (written ws) c.args.buffer.now) c.words.ensures.is)
-    (c.put-all-spaced.ensures.after
-    ∙ (λ k. placed (c.put-word-at.ensures.after k) (c.put-word-at.ensures.next k) (others c.words.result.now some))
+    (c.put_all_spaced.ensures.after
+    ∙ (λ k. placed (c.put_word-at.ensures.after k) (c.put_word-at.ensures.next k) (others c.words.result.now some))
     ∙ whole_buffer c.words.result.now some c.args.buffer.now completes
     ∙ ap (λ ws. overwritten (written ws) c.args.buffer.now) c.words.ensures.is)

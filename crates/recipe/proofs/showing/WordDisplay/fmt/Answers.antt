@@ -13,5 +13,5 @@ returns-in-Step-clause-writes g c plain ok =
     let family = c.in-Step.filter.family in
     let digits = decimal c.in-Step.filter.size in
     subst (λ bs. HasWritten {W = g.row.W.Denot} g.W.Write.write_str_gives c.args.f.now bs c.write.new.self)
-    (ap (λ b. encode b ++ digits) c.letter-of.ensures ∙ ap (λ bs. bs ++ digits) (encode_ascii (letter family) (letter_ascii family)) ∙ ap spelling (sym c.in-Step.is))
+    (ap (λ b. encode b ++ digits) c.letter_of.ensures ∙ ap (λ bs. bs ++ digits) (encode_ascii (letter family) (letter_ascii family)) ∙ ap spelling (sym c.in-Step.is))
     (c.write.ensures.writes plain ok)
