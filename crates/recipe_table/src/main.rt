@@ -2,6 +2,8 @@
 //!
 //! An accepted text prints `accepted` and its words as they are written; a refused one `refused`, the number and the place.
 
+#![tactic(auto)]
+
 use recipe::Recipe;
 use std::io;
 

@@ -1,5 +1,7 @@
 //! Examples of refusals as they are shown.
 
+#![tactic(auto)]
+
 #[cfg(test)]
 mod tests {
     use refusal::{Part, Refusal};
