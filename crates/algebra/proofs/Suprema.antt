@@ -11,7 +11,7 @@ use Rattle.graph.specs.Shapes.{Shape}
 use Rattle.graph.specs.declared.edges.Edge.{Edge}
 use Rattle.filters.specs.Relations.{Stands, End, AtVertex, AtEdge}
 use Rattle.algebra.specs.Laws.{Suprema, AllPassesCombine}
-use Rattle.filters.specs.Passes.{joins, meets, touches, over_ends, over_edges_at, pass_to_edges, pass_to_vertices}
+use Rattle.filters.specs.Passes.{joins, touches, over_ends, over_edges_at, pass_to_edges, pass_to_vertices}
 
 -- what stands at a place is read there, whatever the default
 pub stands_read : {X : Type 0} (xs : List X) (i : ℕ) (x d : X) → Stands xs i x → get_or xs i d ≡ x

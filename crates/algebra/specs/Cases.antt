@@ -1,10 +1,9 @@
 -- Small cases of the laws. Each follows from its law alone, whatever the operations are: a law that says less does not give it.
 -- Assumes nothing.
-use Rattle.std.specs.Prelude.{◌≡◌, ℕ, ◌<◌, length, slice_index_or}
+use Rattle.std.specs.Prelude.{◌≡◌, ℕ, ◌<◌, slice_index_or}
 use Rattle.lattice.specs.Lattices.{Operations}
 use Rattle.graph.specs.Shapes.{Shape, Accepted}
-use Rattle.graph.specs.declared.edges.Edge.{Edge}
-use Rattle.filters.specs.Passes.{joins, meets, pass_to_edges, pass_to_vertices}
+use Rattle.filters.specs.Passes.{joins, meets, pass_to_vertices}
 use Rattle.filters.specs.Relations.{filter, Below, Stands, AtVertex, EdgesBelowEnds}
 use Rattle.filters.specs.Weightings.{Weighting, Fits, filtered}
 use Rattle.filters.specs.declared.families.Family.{Family}

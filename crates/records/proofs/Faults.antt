@@ -4,7 +4,6 @@ use Rattle.std.proofs.lemmas.Bool.{cases_Bool, cond-true, cond-false}
 use Rattle.std.proofs.lemmas.Bool.Decides.{Decides-and, Decides-eqb, not_from_Decides}
 use Rattle.refusal.specs.Reports.{accepted, refused, Verdict}
 use Rattle.refusal.specs.declared.Part.{Part}
-use Rattle.refusal.specs.declared.Part.TheVariants as part
 use Rattle.graph.specs.Shapes.{Shape}
 use Rattle.filters.specs.Weightings.{Weighting, fits, Fits}
 use Rattle.records.specs.Formats.{Format, value_at}

@@ -1,5 +1,5 @@
 -- What is stored loads as the same weights. Assumes nothing.
-use Rattle.std.proofs.Common.{◌≡◌, ℕ, zero, suc, ◌+◌, ◌*◌, ◌<◌, Bool, List, [], ◌∷◌, ◌++◌, length, get_or, take, drop, Some, Decides, sym, refl, ap, ◌∙◌, ap₂, inl, inr, suc-mul, add_comm, zero-mul, arith, length-append}
+use Rattle.std.proofs.Common.{◌≡◌, ℕ, zero, suc, ◌*◌, ◌<◌, Bool, List, [], ◌∷◌, ◌++◌, length, get_or, take, drop, Some, Decides, sym, refl, ap, ◌∙◌, ap₂, inl, inr, suc-mul, add_comm, zero-mul, arith, length-append}
 use Rattle.std.proofs.lemmas.List.FromFn.{fill_by_all}
 use Rattle.std.proofs.lemmas.List.{get_or_default, take_at, drop_at, drop-drop}
 use Rattle.std.proofs.lemmas.Bool.{cond-false}

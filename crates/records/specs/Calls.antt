@@ -1,7 +1,7 @@
 -- What loading weights from records and storing them as records answers, and what it leaves in the buffers. Assumes nothing.
 use Rattle.std.specs.Prelude.{ℕ, Bool, cond, ◌&&◌, List, length, Some, None, Option}
 use Rattle.std.specs.List.{flat_map}
-use Rattle.refusal.specs.Reports.{accepted, refused, Verdict, by_verdict}
+use Rattle.refusal.specs.Reports.{accepted, Verdict, by_verdict}
 use Rattle.lattice.specs.Lattices.{Operations}
 use Rattle.graph.specs.Shapes.{Shape}
 use Rattle.filters.specs.Calls.{wrong_length}

@@ -12,7 +12,7 @@ use Rattle.filters.specs.declared.families.Family.TheVariants.{Dilation, Erosion
 use Rattle.filters.specs.declared.families.Filter.{Filter}
 use Rattle.recipe.specs.declared.words.Word.{Word}
 use Rattle.stories.specs.Statements.{CallsAnswered, RefusalsChangeNothing, StoriesCommute, StoriesAdjoint, StoriesAbsorb}
-use Rattle.stories.specs.Stories.{State, clear, holding, Lengths, Call, step, hold, join, meet, forget, run, Transition, Trace, weights_of, read_state}
+use Rattle.stories.specs.Stories.{State, clear, holding, Lengths, Call, step, hold, join, meet, forget, run, Transition, Trace, weights_of}
 
 -- the call is answered, in a sheet of weights w, with h held beside them or with nothing held
 abbrev ClearAnswers : {K : Type 0} → Operations K → Call → Type 0
