@@ -1,4 +1,5 @@
 //! Examples of edge tables and graph files.
+#![tactic(auto)]
 
 use graph::{Edge, Graph, check_file, judge};
 use refusal::{Part, Refusal};
