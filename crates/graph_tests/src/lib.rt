@@ -1,4 +1,5 @@
 //! Examples of edge tables and graph files.
+#![tactic(auto)]
 
 #![tactic(auto)]
 

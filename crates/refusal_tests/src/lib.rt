@@ -1,4 +1,5 @@
 //! Examples of refusals as they are shown.
+#![tactic(auto)]
 
 #![tactic(auto)]
 
@@ -10,7 +11,9 @@ mod tests {
     // Checks how a refusal is shown.
     fn shows(rt: HostRuntime, refusal: Refusal, text: &str) -> Result<(), Fail> {
         let shown = format!(in rt.alloc(); "{refusal}")?;
-        assert_eq!(shown.as_str(), text);
+        if shown.as_str() != text {
+            return Err(Fail::new(format_args!("shown as {shown:?}, and not as {text:?}")));
+        }
         Ok(())
     }
 
