@@ -2,7 +2,6 @@
 //!
 //! A caller makes [`Graph::empty`], and [`judge`] puts the graph of an edge table into that place. [`check_file`] reads an edge table
 //! from the bytes of a graph file.
-#![tactic(auto)]
 
 #![tactic(auto)]
 

@@ -1,5 +1,4 @@
 //! Examples of edge tables and graph files.
-#![tactic(auto)]
 
 #![tactic(auto)]
 

@@ -1,7 +1,6 @@
 //! Judges a recipe text on each line of the input, and prints what it is read as.
 //!
 //! An accepted text prints `accepted` and its words as they are written; a refused one `refused`, the number and the place.
-#![tactic(auto)]
 
 #![tactic(auto)]
 

@@ -3,7 +3,6 @@
 //! Every call of every crate answers one of these cases. A refusal says three things: a number (which rule was broken), a place
 //! (which record, word or byte breaks it, counted from 0; 0 where the rule names none) and a part (what kind of input is at
 //! fault). `docs/refusals.md` has the whole table.
-#![tactic(auto)]
 
 #![tactic(auto)]
 

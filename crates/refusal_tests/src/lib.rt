@@ -1,5 +1,4 @@
 //! Examples of refusals as they are shown.
-#![tactic(auto)]
 
 #![tactic(auto)]
 
