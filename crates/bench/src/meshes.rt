@@ -103,7 +103,7 @@ fn random(heap: Global, n: u32, m: usize, seed: u64) -> anyhow::Result<Vec<Edge>
             break;
         }
         draw(&mut pairs, &mut generator, n, m)?;
-        pairs.sort();
+        pairs.sort()?;
         pairs.dedup();
     }
     let mut edges = Vec::new(heap);

@@ -162,7 +162,7 @@ fn time_close(
 
 /// Prints the best and the median of the times, and a checksum. The median of an even number is the later of the two middle ones.
 fn print_result(rt: &HostRuntime, times: &mut Vec<Duration>, checksum: u64) -> anyhow::Result<()> {
-    times.sort();
+    times.sort()?;
     let middle = times.len() / 2;
     let (Some(best), Some(median)) = (times.first(), times.get(middle)) else {
         return Err(anyhow!("there was no run"));

@@ -14,6 +14,7 @@ use files::{read_edges, read_file, read_recipe, write_both};
 use meters::Meter;
 use printing::print_evaluated;
 use requests::{Request, Target};
+use std::process::ExitCode;
 use std::time::Instant;
 use std::{env, io};
 use troubles::{Trouble, say_refused};
@@ -108,12 +109,12 @@ fn perform(rt: &HostRuntime) -> Result<(), Trouble> {
     answer(rt, start, words.as_slice())
 }
 
-fn main(rt: HostRuntime) -> Result<(), Trouble> {
+fn main(rt: HostRuntime) -> ExitCode {
     match perform(&rt) {
-        Ok(()) => Ok(()),
+        Ok(()) => ExitCode::SUCCESS,
         Err(trouble) => {
             trouble.say(&rt);
-            Err(trouble)
+            ExitCode::FAILURE
         }
     }
 }
