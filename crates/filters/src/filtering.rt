@@ -43,6 +43,24 @@ fn close<K: Kind>(size: u32, graph: &Graph, vertices: &mut [K], edges: &mut [K],
     rounds::<Meets, Meets, K>(size / 2, graph, vertices, edges, scratch);
 }
 
+/// The closing of a size, and then the opening.
+fn close_and_open<K: Kind>(
+    size: u32,
+    graph: &Graph,
+    vertices: &mut [K],
+    edges: &mut [K],
+    scratch: &mut [K],
+)
+    requires vertices { length vertices.old ≡ graph.now.n }
+    requires edges { length edges.old ≡ length graph.now.edges.now }
+    requires scratch { length scratch.old ≡ graph.now.n }
+    ensures vertices { vertices.new ≡ opened (vertex_rounds K.operations (shape_of graph.now)) size (closed (vertex_rounds K.operations (shape_of graph.now)) size vertices.old) }
+    ensures edges { edges.new ≡ opened (edge_rounds K.operations (shape_of graph.now)) size (closed (edge_rounds K.operations (shape_of graph.now)) size edges.old) }
+{
+    close(size, graph, vertices, edges, scratch);
+    open(size, graph, vertices, edges, scratch);
+}
+
 /// The alternate filter of a size: closings and openings of the sizes up to it, in turn.
 fn alternate<K: Kind>(
     size: u32,
@@ -59,8 +77,7 @@ fn alternate<K: Kind>(
     ensures edges { edges.new ≡ alternated (edge_rounds K.operations (shape_of graph.now)) size edges.old }
 {
     for done in 0..size {
-        close(done + 1, graph, vertices, edges, scratch);
-        open(done + 1, graph, vertices, edges, scratch);
+        close_and_open(done + 1, graph, vertices, edges, scratch);
     }
 }
 
