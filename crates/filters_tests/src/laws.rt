@@ -7,6 +7,7 @@ use lattice::*;
 use readings::*;
 use refusal::Refusal;
 use std::process::Abort;
+use std::test::Fail;
 
 // Whether the weighting, dilated once, is below the path sheet, and whether it is below the path sheet, eroded once.
 fn within_path(weights: ([Level; 5], [Level; 4])) -> Result<(bool, bool), Refusal> {

@@ -5,6 +5,7 @@ use filters::Filter;
 use lattice::*;
 use refusal::Part;
 use std::process::Abort;
+use std::test::Fail;
 
 fn same<const N: usize, const M: usize>(
     left: ([Level; N], [Level; M]),

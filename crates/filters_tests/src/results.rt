@@ -6,6 +6,7 @@ use graph::Edge;
 use lattice::*;
 use std::alloc::{AllocError, Global};
 use std::process::Abort;
+use std::test::Fail;
 
 #[test]
 fn path_rounds(rt: HostRuntime) -> Result<(), Fail> {
