@@ -1,10 +1,9 @@
 -- The responses to the problems of a call. Assumes nothing.
 use Rattle.std.specs.Prelude.{Ok, Err, Result}
-use Rattle.refusal.specs.Reports.{Answer, accepted, refusal_answer, Verdict}
-use Rattle.refusal.specs.declared.Refusal.{Refusal}
+use Rattle.refusal.specs.Reports.{accepted, refusal_answer}
 use Rattle.evaluation.specs.declared.jobs.Failure.{Failure}
 use Rattle.evaluation.specs.declared.jobs.Failure.TheVariants as failure
-use Rattle.c_library.specs.Responses.{Response, response, answered, no_kind, no_memory}
+use Rattle.c_library.specs.Responses.{Response, answered, no_kind, no_memory}
 use Rattle.c_library.specs.declared.problems.Problem.{Problem}
 use Rattle.c_library.specs.declared.problems.Problem.TheVariants.{Refused, NoKind, NoMemory}
 

@@ -1,14 +1,12 @@
 -- A refusal of opening or of running is the refusal of the evaluation. Assumes nothing.
-use Rattle.std.proofs.Common.{◌≡◌, ℕ, true, cond, ◌&&◌, List, length, sym, refl, ap, ◌∙◌, ap₂, arith}
+use Rattle.std.proofs.Common.{◌≡◌, ℕ, true, cond, List, length, sym, ap, ◌∙◌, arith}
 use Rattle.std.proofs.lemmas.Bool.{eq-eqb, and_from}
 use Rattle.refusal.specs.Reports.{Answer, accepted, refused, refusal_answer, Verdict}
 use Rattle.refusal.specs.declared.Refusal.{Refusal}
-use Rattle.lattice.specs.Lattices.{Operations}
 use Rattle.graph.specs.Shapes.{Shape}
 use Rattle.filters.specs.Calls.{wrong_length}
 use Rattle.filters.specs.Weightings.{Weighting, Fits, fits}
 use Rattle.records.specs.Calls.{Loaded, bytes_of_both, loaded, load_call, record_weights}
-use Rattle.records.specs.Formats.{Format}
 use Rattle.records.specs.Verdicts.{records_verdict}
 use Rattle.recipe.specs.Judging.{judge}
 use Rattle.recipe.specs.declared.words.Word.{Word}

@@ -1,5 +1,5 @@
 -- Reversals in front of a name are taken off one by one. Assumes nothing.
-use Rattle.std.proofs.Common.{◌≡◌, ℕ, zero, suc, List, ◌++◌, get_or, drop, codes, refl, ap, ◌∙◌, arith}
+use Rattle.std.proofs.Common.{◌≡◌, ℕ, zero, suc, List, ◌++◌, get_or, drop, codes, refl, ap, arith}
 use Rattle.evaluation.specs.Kinds.{base_name, reversals}
 use Rattle.evaluation.specs.declared.kinds.BaseKind.{BaseKind}
 use Rattle.evaluation.specs.declared.kinds.BaseKind.TheVariants.{Presence, Level, Classes}

@@ -10,7 +10,6 @@ use Rattle.lattice.specs.declared.class_sets.Classes as classes
 use Rattle.lattice.specs.declared.levels.Level as levels
 use Rattle.lattice.specs.declared.presences.Presence as presences
 use Rattle.lattice.specs.declared.reversal.Reversed.{Reversed}
-use Rattle.records.specs.Formats.{Format}
 use Rattle.evaluation.specs.Evaluations.{StoredKind, stored_kind, Input, Output, evaluated}
 use Rattle.evaluation.specs.declared.kinds.BaseKind.{BaseKind}
 use Rattle.evaluation.specs.declared.kinds.BaseKind.TheVariants.{Presence, Level, Classes}

@@ -1,5 +1,5 @@
-use Rattle.std.proofs.Common.{◌≡◌, ℕ, sym, ap, ◌∙◌, arith}
-use Rattle.refusal.specs.Reports.{accepted, refusal_answer, Verdict}
+use Rattle.std.proofs.Common.{◌≡◌, ℕ, ap, ◌∙◌, arith}
+use Rattle.refusal.specs.Reports.{accepted, refusal_answer}
 use Rattle.graph.specs.Verdicts.{verdict}
 use Rattle.evaluation.proofs.Rows.{accepted_file}
 use Rattle.evaluation.proofs.evaluating.evaluate_with.Goals as goal
