@@ -9,9 +9,9 @@ ghost use Rattle.c_library.specs.Filtering.{Filters, filtered, input_of};
 ghost use Rattle.c_library.specs.Recipes.{count_after};
 ghost use Rattle.c_library.specs.Responses.{Responds, answered, response};
 
-use crate::calls::{check, count_words, filter};
 use crate::problems::respond;
 use crate::refusal_records::RefusalRecord;
+use crate::requests::{check, count_words, filter};
 use evaluation::Job;
 use std::alloc::Global;
 

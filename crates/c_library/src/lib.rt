@@ -5,10 +5,10 @@
 
 #![tactic(auto)]
 
-mod calls;
 mod exports;
 mod problems;
 mod refusal_records;
+mod requests;
 
 pub use exports::{evaluator_check_graph, evaluator_filter, evaluator_read_recipe};
 pub use refusal_records::RefusalRecord;

@@ -5,14 +5,14 @@
 #[cfg(test)]
 mod buffers;
 #[cfg(test)]
-mod calls;
-#[cfg(test)]
 mod closing;
 #[cfg(test)]
 mod opening;
 #[cfg(test)]
 mod reading;
 #[cfg(test)]
-mod stories;
+mod story_calls;
+#[cfg(test)]
+mod story_tests;
 #[cfg(test)]
 mod support;

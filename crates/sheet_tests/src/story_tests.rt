@@ -1,7 +1,7 @@
 // Stories of calls on the path sheet: the answer to each call, and what all buffers hold after it.
 
 use crate::buffers::*;
-use crate::calls::*;
+use crate::story_calls::*;
 use crate::support::*;
 use filters::WeightsMut;
 use graph::Edge;

@@ -1,7 +1,7 @@
 use Rattle.std.proofs.Common.{◌∙◌, arith, rules}
 use Rattle.evaluation.specs.Evaluations.{input}
 use Rattle.c_library.proofs.Numbering.{delivers}
-use Rattle.c_library.proofs.calls.filter.Goals as goal
+use Rattle.c_library.proofs.requests.filter.Goals as goal
 
 pub returns : goal.returns
 returns c =
