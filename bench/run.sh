@@ -6,7 +6,7 @@
 #      vertices and edges;
 #   2. the time of D1 for each edge, on grids and random meshes of 10,000 to 1,000,000 vertices.
 #
-#   rt check bench && bench/run.sh [quick] [--markdown]
+#   (cd crates/bench_sheet && rt run) && bench/run.sh [quick] [--markdown]
 #
 # "quick" takes few turns. "--markdown" prints rows of Markdown. The column "at most" is what the ratio should come to; nothing fails
 # where it does not, since times move with the load of the machine. The exit status is 1 where the two programs come to different
@@ -28,12 +28,12 @@ for word in "$@"; do
 done
 
 here=$(cd "$(dirname "$0")" && pwd)
-rattle=$here/../target/bin/bench
+rattle=$here/../crates/bench_sheet/out/bench_sheet
 work=$(mktemp -d)
 trap 'rm -rf "$work"' EXIT
 
 if [ ! -x "$rattle" ]; then
-    echo "run.sh: there is no target/bin/bench: run 'rt check bench' first" >&2
+    echo "run.sh: there is no crates/bench_sheet/out/bench_sheet: run 'rt run' in crates/bench_sheet first" >&2
     exit 2
 fi
 g++ -O3 -std=c++17 -o "$work/twin" "$here/twin.cpp" || exit 2

@@ -7,12 +7,12 @@ here=$(cd "$(dirname "$0")" && pwd -P)
 work=$(mktemp -d)
 trap 'rm -rf "$work"' EXIT
 cd "$here/.."
-kit=$(dirname "$(dirname "$(rt doc)")")
-rt staticlib c_library >"$work/said" 2>&1 || { cat "$work/said"; exit 1; }
+kit=$(dirname "$(rt doc)")
+(cd crates/c_library && rt lib) >"$work/said" 2>&1 || { cat "$work/said"; exit 1; }
 
 # build FLAGS...: compiles the test and links it with the library
 build() {
-    cc -std=c11 -Wall -Wextra -Werror -g "$@" -Wl,--wrap=malloc "$here/test.c" target/staticlib/libc_library.a "$kit/lib/librattle_c.a" -o "$work/test"
+    cc -std=c11 -Wall -Wextra -Werror -g "$@" -Wl,--wrap=malloc "$here/test.c" crates/c_library/out/libc_library.a "$kit/c/liblibc_c.a" -o "$work/test"
 }
 
 build -O1 -fsanitize=address,undefined -fno-sanitize-recover=all

@@ -11,8 +11,8 @@ set -eu
 cd "$(dirname "$0")/.."
 
 build=target/compare
-program=target/bin/evaluate
-archive=target/staticlib/libc_library.a
+program=crates/evaluate/out/evaluate
+archive=crates/c_library/out/libc_library.a
 cases=3000
 start=1
 with_program=yes
@@ -44,20 +44,20 @@ while [ $# -gt 0 ]; do
 done
 
 if [ $with_program = yes ] && [ ! -x "$program" ]; then
-    echo "compare: there is no program $program: build it first (rt check evaluate), or say --library-only or --reference-only" >&2
+    echo "compare: there is no program $program: build it first (rt run in crates/evaluate), or say --library-only or --reference-only" >&2
     exit 2
 fi
 missing=no
 if [ $with_library = yes ] && [ ! -f "$archive" ]; then
     if [ $with_program = no ]; then
-        echo "compare: there is no archive $archive: build it first (rt staticlib c_library)" >&2
+        echo "compare: there is no archive $archive: build it first (rt lib in crates/c_library)" >&2
         exit 2
     fi
     missing=yes with_library=no
 fi
 say_missing() {
     if [ $missing = yes ]; then
-        echo "*** THE C LIBRARY IS NOT COMPARED: there is no $archive (rt staticlib c_library) ***"
+        echo "*** THE C LIBRARY IS NOT COMPARED: there is no $archive (rt lib in crates/c_library) ***"
     fi
 }
 
@@ -77,7 +77,7 @@ if [ ! -f $build/built ] || [ -n "$(find tests \( -name '*.cpp' -o -name '*.hpp'
 fi
 if [ $with_library = yes ]; then
     $compile -Ic -c tests/compare/library.cpp -o $build/library.o
-    libraries="$archive $(dirname "$(dirname "$(rt doc)")")/lib/librattle_c.a -lpthread -ldl -lm"
+    libraries="$archive $(dirname "$(rt doc)")/c/liblibc_c.a -lpthread -ldl -lm"
 else
     $compile -DWITHOUT_LIBRARY -c tests/compare/library.cpp -o $build/library.o
     libraries=
