@@ -11,3 +11,4 @@ pub mod SameValues
 pub mod KindLaws
 pub mod SetBits
 pub mod LatticesLemmas
+pub mod ChainLaws

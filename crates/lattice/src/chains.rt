@@ -2,7 +2,7 @@
 
 ghost use Rattle.std.specs.Prelude.{◌≡◌, false, Decides};
 ghost use Rattle.lattice.specs.Chains.{Total};
-ghost use Rattle.std.proofs.Common.{rules, arith};
+ghost use Rattle.lattice.specs.ChainLaws.{presence_total, level_total, reversed_total};
 
 use crate::kinds::Kind;
 use crate::levels::Level;
@@ -21,7 +21,7 @@ pub trait Chain: Kind {
 }
 
 impl Chain for Presence {
-    ghost total = { Prim.search rules };
+    ghost total = { presence_total };
 
     fn at_most(self, other: Presence) -> bool {
         self.is_below(other)
@@ -29,7 +29,7 @@ impl Chain for Presence {
 }
 
 impl Chain for Level {
-    ghost total = { first_of (Prim.search rules, Prim.grind (arith, Self.row.coded.inj)) };
+    ghost total = { level_total };
 
     fn at_most(self, other: Level) -> bool {
         self.value() <= other.value()
@@ -37,7 +37,7 @@ impl Chain for Level {
 }
 
 impl<C: Chain> Chain for Reversed<C> {
-    ghost total = { Prim.search rules };
+    ghost total = { reversed_total C.Chain.total };
 
     fn at_most(self, other: Self) -> bool {
         other.inner.at_most(self.inner)

@@ -3,7 +3,7 @@
 ghost use Rattle.std.specs.Prelude.{◌≡◌, ◌≤◌, Decides};
 ghost use Rattle.lattice.specs.Levels.{level, level_number, level_below, level_leq, level_operations, LevelKind};
 ghost use Rattle.lattice.specs.KindLaws.{level_lattice};
-ghost use Rattle.std.proofs.Common.{rules, arith};
+ghost use Rattle.std.proofs.Common.{rules};
 
 use crate::kinds::Kind;
 use crate::levels::Level;
@@ -17,7 +17,7 @@ impl Kind for Level {
 
     ghost lattice = { level_lattice };
 
-    ghost decided = { first_of (Prim.search rules, Prim.grind (arith, Self.row.coded.inj)) };
+    ghost decided = { Prim.search rules };
 
     fn lowest() -> Level
         ensures { result ≡ level_operations.lowest }

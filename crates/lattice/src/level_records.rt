@@ -19,13 +19,13 @@ impl Stored for Level {
 
     ghost written = { level_record };
 
-    ghost narrow = { first_of (Prim.search rules, Prim.grind (arith, Self.row.coded.inj)) };
+    ghost narrow = { Prim.search rules };
 
-    ghost sized = { first_of (Prim.search rules, Prim.grind (arith, Self.row.coded.inj)) };
+    ghost sized = { Prim.search rules };
 
     ghost read_back = { λ x. sym (level_read x (bytes_of 2 x.value) refl (omega (arith, x.fits))) };
 
-    ghost whole = { first_of (Prim.search rules, Prim.grind (arith, Self.row.coded.inj)) };
+    ghost whole = { Prim.search rules };
 
     fn record_size() -> usize
         ensures { result ≡ 2 }

@@ -6,7 +6,7 @@ ghost use Rattle.refusal.specs.Reports.{answer};
 ghost use Rattle.readings.specs.Cuts.{cut_at, cut_call, map_answer, lowest_reversed_level};
 ghost use Rattle.lattice.specs.Levels.{level_leq, level_number};
 ghost use Rattle.lattice.specs.declared.presences.Presence.TheVariants.{Present};
-ghost use Rattle.lattice.proofs.ChainLaws.{level_total, reversed_total};
+ghost use Rattle.lattice.specs.ChainLaws.{level_total, reversed_total};
 ghost use Rattle.readings.specs.CutLaws.{cut_morphism};
 ghost use Rattle.lattice.specs.KindLaws.{level_lattice};
 ghost use Rattle.lattice.specs.LatticesLemmas.{reversed_lattice};
