@@ -63,7 +63,7 @@ lone = shape 2 (edge 0 1 ∷ [])
 abbrev filtered_isolated : Family → Weighting ℕ
 filtered_isolated f = numbers (filtered level_operations isolated (filter f 1) (induced level_operations isolated (map level (4 ∷ 6 ∷ 9 ∷ []))))
 
--- the records open to the starting weights, whatever the buffers held; and then the twelve results, in order
+-- the records open to the starting weights in buffers that held what D1 leaves; and then the twelve results, in order
 pub record Results : Type 0 where
   pub opens : load_call level_operations level_leq (format 2 parsed_level) path path_records None (filtered_path Dilation 1) ≡ loaded (accepted tt) start
   pub begins : numbers start ≡ row 5 2 7 7 1 2 2 7 1
