@@ -9,6 +9,10 @@ use Rattle.algebra.specs.Laws.{in_turn, largest, last_of, NeverFalls}
 use Rattle.lattice.specs.Lattices.{turned, Order}
 use Rattle.lattice.specs.LatticesLemmas.{turned_order}
 
+-- an equation gives both orders
+pub below_of : {X : Type 0} {below : X → X → Type 0} → Order below → {x y : X} → x ≡ y → below x y
+below_of {below = below} o {x} e = subst (below x) e (o.reflexive x)
+
 -- δ is the lower half of an adjunction, and ε the upper
 pub record Adjoint {X Y : Type 0} (bx : X → X → Type 0) (by : Y → Y → Type 0) (δ : X → Y) (ε : Y → X) : Type 0 where
   pub up : (x : X) (y : Y) → by (δ x) y → bx x (ε y)

@@ -1,5 +1,5 @@
 -- Bytes put one after another.
-use Rattle.std.proofs.Common.{◌≡◌, ℕ, zero, suc, ◌+◌, ◌<◌, ◌≤◌, ltb, List, [], ◌∷◌, ◌++◌, length, get_or, take, drop, set, sym, ap, ◌∙◌, append_assoc, add-zero, zero-add, arith, length-append, take-append-drop}
+use Rattle.std.proofs.Common.{◌≡◌, ℕ, zero, suc, ◌+◌, ◌<◌, ◌≤◌, ltb, List, [], ◌∷◌, ◌++◌, length, get_or, take, drop, set, sym, ap, ◌∙◌, append_assoc, add-zero, zero-add, arith, length-append, length-drop, take-append-drop}
 use Rattle.std.proofs.lemmas.Slice.{first_rest}
 use Rattle.std.specs.List.{between, flat_map}
 use Rattle.std.proofs.lemmas.List.{flat_map_more, set_split, take_more, take_at, drop_at, length-take-le, drop-drop}
@@ -9,6 +9,10 @@ use Rattle.filters.specs.declared.families.Family.TheVariants.{Dilation}
 use Rattle.recipe.specs.declared.words.Word.{Word}
 use Rattle.recipe.specs.Shapes.{step_of}
 use Rattle.recipe.specs.Written.{spelling, spaced, written, write_answer, overwritten, placed}
+
+pub length_placed : (bytes : List ℕ) (at : ℕ) (put : List ℕ) → at + length put ≤ length bytes → length (placed bytes at put) ≡ length bytes
+length_placed bytes at put h =
+    omega (arith, length-append (take at bytes) (put ++ drop (at + length put) bytes), length-append put (drop (at + length put) bytes), length-take-le at bytes (omega arith), length-drop (at + length put) bytes)
 
 pub placed_more : (bytes : List ℕ) (at : ℕ) (put more : List ℕ) → at + length put + length more ≤ length bytes → placed (placed bytes at put) (at + length put) more ≡ placed bytes at (put ++ more)
 placed_more bytes at put more h =

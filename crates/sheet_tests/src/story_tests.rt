@@ -6,7 +6,7 @@ use crate::support::*;
 use filters::WeightsMut;
 use graph::Edge;
 use lattice::*;
-use path_sheet::{edge_records, edges, order, vertex_records};
+use path_sheet::{VERTICES, edge_records, edges, vertex_records};
 use readings::*;
 use recipe::Recipe;
 use refusal::{Part, Refusal};
@@ -52,7 +52,7 @@ fn trace<K: Stored, const R: usize>(
     other_text: &[u8],
     place: &mut Recipe,
 ) -> Result<([(u8, usize, Option<Part>); R], [Buffers<K>; R]), Refusal> {
-    let graph = graph_of(order(), rows);
+    let graph = graph_of(VERTICES, rows);
     let mut start = weights_alone(([K::lowest(); 5], [K::lowest(); 4]));
     let weights = WeightsMut {
         vertices: &mut start.vertices,

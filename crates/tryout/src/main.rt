@@ -6,7 +6,7 @@
 use filters::WeightsMut;
 use graph::{Edge, Graph, judge};
 use lattice::{Kind, Level};
-use path_sheet::{edge_records, edges, order, vertex_records};
+use path_sheet::{VERTICES, edge_records, edges, vertex_records};
 use recipe::Recipe;
 use refusal::Refusal;
 use sheet::{Clear, Sheet};
@@ -100,11 +100,11 @@ fn print_weights(rt: &HostRuntime, weights: &[Level]) -> io::Result<()> {
 /// Prints the weights after the recipe, or its refusal.
 fn show(rt: &HostRuntime, table: &[Edge], text: &[u8]) -> anyhow::Result<()> {
     let heap = rt.alloc();
-    let mut weights = Spare::new(heap, order(), table.len())?;
-    let mut scratch = Spare::new(heap, order(), table.len())?;
-    let mut held = Spare::new(heap, order(), table.len())?;
+    let mut weights = Spare::new(heap, VERTICES, table.len())?;
+    let mut scratch = Spare::new(heap, VERTICES, table.len())?;
+    let mut held = Spare::new(heap, VERTICES, table.len())?;
     let mut graph = Graph::empty();
-    let outcome = match judge(&mut graph, order(), table) {
+    let outcome = match judge(&mut graph, VERTICES, table) {
         Ok(()) => run_on(
             &graph,
             text,
