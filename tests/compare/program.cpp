@@ -102,7 +102,8 @@ std::vector<std::string> write_inputs(const Case &given, const std::string &fold
   put_file(folder + "/graph", given.graph);
   put_file(folder + "/vertices", given.vertices);
   if (given.edges) put_file(folder + "/edges", *given.edges);
-  put_file(folder + "/recipe", given.recipe);
+  // Of a recipe file the program drops one final newline, which editors write: so the text is followed by one.
+  put_file(folder + "/recipe", given.recipe_in_file ? given.recipe + "\n" : given.recipe);
   return {given.kind,
           std::to_string(given.order),
           folder + "/graph",

@@ -2,8 +2,8 @@
 //
 //   KIND N GRAPH VERTICES EDGES RECIPE VERTICES_OUT EDGES_OUT
 //
-// EDGES may be `-`: absent. RECIPE is the text itself, or @FILE. A refusal is the line `refused NUMBER PLACE` and status 1;
-// arguments that make no sense, and files that cannot be read or written, are status 2.
+// EDGES may be `-`: absent. RECIPE is the text itself, or @FILE: what the file holds without one final newline. A refusal is the line
+// `refused NUMBER PLACE` and status 1; arguments that make no sense, and files that cannot be read or written, are status 2.
 
 #include <charconv>
 #include <iostream>
@@ -53,7 +53,10 @@ int evaluate(const std::vector<std::string> &arguments) {
   std::optional<Bytes> edges;
   if (arguments[4] != "-") edges = read_or_stop<Bytes>(arguments[4]);
   std::string recipe = arguments[5];
-  if (!recipe.empty() && recipe[0] == '@') recipe = read_or_stop<std::string>(recipe.substr(1));
+  if (!recipe.empty() && recipe[0] == '@') {
+    recipe = read_or_stop<std::string>(recipe.substr(1));
+    if (!recipe.empty() && recipe.back() == '\n') recipe.pop_back();
+  }
 
   const auto answer = reference::evaluate(*kind, order, graph, vertices, edges, recipe);
   if (const auto *refusal = std::get_if<reference::Refusal>(&answer)) {
