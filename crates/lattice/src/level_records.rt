@@ -7,17 +7,21 @@ ghost use Rattle.lattice.specs.Decoded.{level_read};
 
 use crate::kinds::Kind;
 use crate::levels::Level;
-use crate::records::Stored;
+use crate::records::{Stored, write_record};
 
 /// Two bytes, the low one first.
 impl Stored for Level {
     const WIDTH: usize = 2;
+
+    ghost WIDTH = { 2 };
 
     ghost size = { 2 };
 
     ghost parsed = { parsed_level };
 
     ghost written = { level_record };
+
+    ghost width = { Prim.search rules };
 
     ghost narrow = { Prim.search rules };
 
@@ -26,12 +30,6 @@ impl Stored for Level {
     ghost read_back = { λ x. sym (level_read x (bytes_of 2 x.value) refl (omega (arith, x.fits))) };
 
     ghost whole = { Prim.search rules };
-
-    fn record_size() -> usize
-        ensures { result ≡ 2 }
-    {
-        Self::WIDTH
-    }
 
     fn decode(bytes: &[u8]) -> Option<Level>
         ensures { result ≡ parsed_level bytes.now }
@@ -46,10 +44,6 @@ impl Stored for Level {
         ensures fits { result ≡ (length bytes.old == 2) }
         ensures bytes { bytes.new ≡ recorded 2 (level_record self) bytes.old }
     {
-        if bytes.len() != Self::WIDTH {
-            return false;
-        }
-        bytes.copy_from_slice(&self.value().to_le_bytes());
-        true
+        write_record(&self.value().to_le_bytes(), bytes)
     }
 }

@@ -6,17 +6,21 @@ ghost use Rattle.std.proofs.Common.{rules};
 
 use crate::kinds::Kind;
 use crate::presences::Presence;
-use crate::records::Stored;
+use crate::records::{Stored, write_record};
 
 /// One byte: 0 is absent and 1 present.
 impl Stored for Presence {
     const WIDTH: usize = 1;
+
+    ghost WIDTH = { 1 };
 
     ghost size = { 1 };
 
     ghost parsed = { parsed_presence };
 
     ghost written = { presence_record };
+
+    ghost width = { Prim.search rules };
 
     ghost narrow = { Prim.search rules };
 
@@ -25,12 +29,6 @@ impl Stored for Presence {
     ghost read_back = { Prim.search rules };
 
     ghost whole = { Prim.search rules };
-
-    fn record_size() -> usize
-        ensures { result ≡ 1 }
-    {
-        Self::WIDTH
-    }
 
     fn decode(bytes: &[u8]) -> Option<Presence>
         ensures { result ≡ parsed_presence bytes.now }
@@ -49,13 +47,6 @@ impl Stored for Presence {
         ensures fits { result ≡ (length bytes.old == 1) }
         ensures bytes { bytes.new ≡ recorded 1 (presence_record self) bytes.old }
     {
-        if bytes.len() != Self::WIDTH {
-            return false;
-        }
-        match self {
-            Presence::Absent => bytes.copy_from_slice(&[0]),
-            Presence::Present => bytes.copy_from_slice(&[1]),
-        }
-        true
+        write_record(&[self as u8], bytes)
     }
 }

@@ -80,10 +80,7 @@ impl fmt::Display for Presence {
     ghost output = { λ x. Some (decimal (presence_number x)) };
 
     fn fmt<W: fmt::Write>(&self, f: &mut fmt::Formatter<W>) -> fmt::Result {
-        let number: u8 = match self {
-            Presence::Absent => 0,
-            Presence::Present => 1,
-        };
+        let number = *self as u8;
         write!(f, "{number}")
     }
 }
