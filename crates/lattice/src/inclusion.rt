@@ -23,14 +23,6 @@ impl Classes {
         k < 32 && (self.bits >> k) % 2 == 1
     }
 
-    /// Whether each class in this set is in the other.
-    fn is_subset(self, other: Classes) -> bool
-        ensures value { result ≡ classes_leq self other }
-        ensures exact { Decides result (Included self other) }
-    {
-        self.bits & other.bits == self.bits
-    }
-
     /// Shows what the kind means: the sets of classes 0 to 31, ordered by inclusion, the join the union and the meet the
     /// intersection.
     pub fn meaning()
@@ -77,6 +69,6 @@ impl Kind for Classes {
         ensures value { result ≡ classes_leq self other }
         ensures exact { Decides result (Included self other) }
     {
-        self.is_subset(other)
+        self.bits & other.bits == self.bits
     }
 }

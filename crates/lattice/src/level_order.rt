@@ -47,7 +47,7 @@ impl Kind for Level {
         ensures value { result ≡ level_leq self other }
         ensures exact { Decides result (level_number self ≤ level_number other) }
     {
-        self.value <= other.value
+        self <= other
     }
 }
 

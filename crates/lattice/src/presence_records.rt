@@ -33,12 +33,9 @@ impl Stored for Presence {
     fn decode(bytes: &[u8]) -> Option<Presence>
         ensures { result ≡ parsed_presence bytes.now }
     {
-        let [byte] = bytes else {
-            return None;
-        };
-        match *byte {
-            0 => Some(Presence::Absent),
-            1 => Some(Presence::Present),
+        match bytes {
+            [0] => Some(Presence::Absent),
+            [1] => Some(Presence::Present),
             _ => None,
         }
     }

@@ -9,7 +9,7 @@ use crate::kinds::Kind;
 use std::fmt;
 
 /// Whether something is there: absent is below present.
-#[derive(Clone, Copy, PartialEq, Eq, Debug)]
+#[derive(Clone, Copy, PartialEq, Eq, PartialOrd, Ord, Debug)]
 #[repr(u8)]
 pub enum Presence {
     Absent,
@@ -49,29 +49,20 @@ impl Kind for Presence {
     fn join(self, other: Presence) -> Presence
         ensures { result ≡ presence_operations.join self other }
     {
-        match self {
-            Presence::Absent => other,
-            Presence::Present => Presence::Present,
-        }
+        self.max(other)
     }
 
     fn meet(self, other: Presence) -> Presence
         ensures { result ≡ presence_operations.meet self other }
     {
-        match self {
-            Presence::Absent => Presence::Absent,
-            Presence::Present => other,
-        }
+        self.min(other)
     }
 
     fn is_below(self, other: Presence) -> bool
         ensures value { result ≡ presence_leq self other }
         ensures exact { Decides result (presence_below self other) }
     {
-        match self {
-            Presence::Absent => true,
-            Presence::Present => matches!(other, Presence::Present),
-        }
+        self <= other
     }
 }
 
