@@ -26,7 +26,6 @@ impl fmt::Display for Classes {
     ghost output = { λ x. Some (decimal x.bits) };
 
     fn fmt<W: fmt::Write>(&self, f: &mut fmt::Formatter<W>) -> fmt::Result {
-        let bits = self.bits;
-        write!(f, "{bits}")
+        write!(f, "{}", self.bits)
     }
 }

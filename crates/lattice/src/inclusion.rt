@@ -17,6 +17,7 @@ impl Classes {
     }
 
     /// Whether class k is in the set. There is none above 31.
+    #[tactic(auto, using(crate::specs::SetBits::none_past))]
     pub fn has(self, k: u8) -> bool
         ensures { result ≡ has_class k self }
     {
@@ -65,6 +66,7 @@ impl Kind for Classes {
         Classes::from_bits(self.bits & other.bits)
     }
 
+    #[tactic(auto, using(crate::specs::KindLaws::classes_decided))]
     fn is_below(self, other: Classes) -> bool
         ensures value { result ≡ classes_leq self other }
         ensures exact { Decides result (Included self other) }

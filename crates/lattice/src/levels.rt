@@ -26,7 +26,6 @@ impl fmt::Display for Level {
     ghost output = { λ x. Some (decimal x.value) };
 
     fn fmt<W: fmt::Write>(&self, f: &mut fmt::Formatter<W>) -> fmt::Result {
-        let value = self.value;
-        write!(f, "{value}")
+        write!(f, "{}", self.value)
     }
 }

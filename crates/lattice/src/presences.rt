@@ -1,7 +1,7 @@
 //! The kind of weights that are there or not.
 
 ghost use Rattle.std.specs.Prelude.{◌≡◌, Some, decimal, Decides};
-ghost use Rattle.lattice.specs.Presences.{presence_below, presence_leq, presence_number, presence_operations, PresenceKind};
+ghost use Rattle.lattice.specs.Presences.{presence_below, presence_leq, presence_number, presence_operations, present_if, PresenceKind};
 ghost use Rattle.lattice.specs.KindLaws.{presence_lattice};
 ghost use Rattle.std.proofs.Common.{rules};
 
@@ -21,6 +21,19 @@ impl Presence {
     pub fn meaning()
         ensures { PresenceKind presence_below presence_operations }
     {}
+}
+
+/// Present where the test answers yes.
+impl From<bool> for Presence {
+    ghost from_gives = { λ test x. x ≡ present_if test };
+
+    fn from(test: bool) -> Presence {
+        if test {
+            Presence::Present
+        } else {
+            Presence::Absent
+        }
+    }
 }
 
 impl Kind for Presence {
@@ -71,7 +84,6 @@ impl fmt::Display for Presence {
     ghost output = { λ x. Some (decimal (presence_number x)) };
 
     fn fmt<W: fmt::Write>(&self, f: &mut fmt::Formatter<W>) -> fmt::Result {
-        let number = *self as u8;
-        write!(f, "{number}")
+        write!(f, "{}", *self as u8)
     }
 }
