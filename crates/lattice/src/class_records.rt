@@ -34,10 +34,8 @@ impl Stored for Classes {
     fn decode(bytes: &[u8]) -> Option<Classes>
         ensures { result ≡ parsed_classes bytes.now }
     {
-        match bytes {
-            [a, b, c, d] => Some(Classes::from_bits(u32::from_le_bytes([*a, *b, *c, *d]))),
-            _ => None,
-        }
+        let record = <[u8; 4]>::try_from(bytes).ok()?;
+        Some(Classes::from_bits(u32::from_le_bytes(record)))
     }
 
     fn encode(self, bytes: &mut [u8]) -> bool

@@ -34,10 +34,8 @@ impl Stored for Level {
     fn decode(bytes: &[u8]) -> Option<Level>
         ensures { result ≡ parsed_level bytes.now }
     {
-        match bytes {
-            [low, high] => Some(Level::new(u16::from_le_bytes([*low, *high]))),
-            _ => None,
-        }
+        let record = <[u8; 2]>::try_from(bytes).ok()?;
+        Some(Level::new(u16::from_le_bytes(record)))
     }
 
     fn encode(self, bytes: &mut [u8]) -> bool
