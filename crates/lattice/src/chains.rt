@@ -15,31 +15,22 @@ pub trait Chain: Kind {
     fn at_most(self, other: Self) -> bool
         ensures value { result ≡ Self.Kind.leq self other }
         ensures exact { Decides result (Self.Kind.below self other) }
-        ensures otherwise { result ≡ false → Self.Kind.below other self };
+        ensures otherwise { result ≡ false → Self.Kind.below other self }
+    {
+        self.is_below(other)
+    }
 
     ghost total: { Total Self.Kind.below Self.Kind.leq };
 }
 
 impl Chain for Presence {
     ghost total = { presence_total };
-
-    fn at_most(self, other: Presence) -> bool {
-        self.is_below(other)
-    }
 }
 
 impl Chain for Level {
     ghost total = { level_total };
-
-    fn at_most(self, other: Level) -> bool {
-        self.value() <= other.value()
-    }
 }
 
 impl<C: Chain> Chain for Reversed<C> {
     ghost total = { reversed_total C.Chain.total };
-
-    fn at_most(self, other: Self) -> bool {
-        other.inner.at_most(self.inner)
-    }
 }

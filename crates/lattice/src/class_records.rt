@@ -7,17 +7,21 @@ ghost use Rattle.lattice.specs.Decoded.{classes_read};
 
 use crate::class_sets::Classes;
 use crate::kinds::Kind;
-use crate::records::Stored;
+use crate::records::{Stored, write_record};
 
 /// Four bytes, the low one first; bit k for class k.
 impl Stored for Classes {
     const WIDTH: usize = 4;
+
+    ghost WIDTH = { 4 };
 
     ghost size = { 4 };
 
     ghost parsed = { parsed_classes };
 
     ghost written = { classes_record };
+
+    ghost width = { Prim.search rules };
 
     ghost narrow = { Prim.search rules };
 
@@ -27,29 +31,17 @@ impl Stored for Classes {
 
     ghost whole = { Prim.search rules };
 
-    fn record_size() -> usize
-        ensures { result ≡ 4 }
-    {
-        Self::WIDTH
-    }
-
     fn decode(bytes: &[u8]) -> Option<Classes>
         ensures { result ≡ parsed_classes bytes.now }
     {
-        match bytes {
-            [a, b, c, d] => Some(Classes::from_bits(u32::from_le_bytes([*a, *b, *c, *d]))),
-            _ => None,
-        }
+        let record = <[u8; 4]>::try_from(bytes).ok()?;
+        Some(Classes::from_bits(u32::from_le_bytes(record)))
     }
 
     fn encode(self, bytes: &mut [u8]) -> bool
         ensures fits { result ≡ (length bytes.old == 4) }
         ensures bytes { bytes.new ≡ recorded 4 (classes_record self) bytes.old }
     {
-        if bytes.len() != Self::WIDTH {
-            return false;
-        }
-        bytes.copy_from_slice(&self.bits().to_le_bytes());
-        true
+        write_record(&self.bits().to_le_bytes(), bytes)
     }
 }

@@ -13,13 +13,6 @@ pub struct Classes {
 }
 
 impl Classes {
-    /// The set that has class k where bit k is 1.
-    pub fn from_bits(bits: u32) -> Classes
-        ensures { result.bits ≡ bits }
-    {
-        Classes { bits }
-    }
-
     /// The set as a number: bit k is 1 where class k is in the set.
     pub fn bits(self) -> u32
         ensures { result ≡ self.bits }
@@ -33,7 +26,6 @@ impl fmt::Display for Classes {
     ghost output = { λ x. Some (decimal x.bits) };
 
     fn fmt<W: fmt::Write>(&self, f: &mut fmt::Formatter<W>) -> fmt::Result {
-        let bits = self.bits;
-        write!(f, "{bits}")
+        write!(f, "{}", self.bits)
     }
 }

@@ -8,26 +8,20 @@ use crate::class_sets::Classes;
 use crate::kinds::Kind;
 
 impl Classes {
-    /// Whether class k is in the set. There is none above 31.
-    pub fn has(self, k: u8) -> bool
-        ensures { result ≡ has_class k self }
-    {
-        k < 32 && (self.bits >> k) % 2 == 1
-    }
-
-    /// The set that a number is, all of it: a set is its bits and nothing else.
-    fn of_number(bits: u32) -> Classes
-        ensures { result ≡ classes_of bits }
+    /// The set that has class k where bit k is 1, all of it: a set is its bits and nothing else.
+    pub fn from_bits(bits: u32) -> Classes
+        ensures number { result.bits ≡ bits }
+        ensures whole { result ≡ classes_of bits }
     {
         Classes { bits }
     }
 
-    /// Whether each class in this set is in the other.
-    fn is_subset(self, other: Classes) -> bool
-        ensures value { result ≡ classes_leq self other }
-        ensures exact { Decides result (Included self other) }
+    /// Whether class k is in the set. There is none above 31.
+    #[tactic(auto, using(crate::specs::SetBits::none_past))]
+    pub fn has(self, k: u8) -> bool
+        ensures { result ≡ has_class k self }
     {
-        self.bits & other.bits == self.bits
+        k < 32 && (self.bits >> k) % 2 == 1
     }
 
     /// Shows what the kind means: the sets of classes 0 to 31, ordered by inclusion, the join the union and the meet the
@@ -51,31 +45,32 @@ impl Kind for Classes {
     fn lowest() -> Classes
         ensures { result ≡ classes_operations.lowest }
     {
-        Classes::of_number(0)
+        Classes::from_bits(0)
     }
 
     fn highest() -> Classes
         ensures { result ≡ classes_operations.highest }
     {
-        Classes::of_number(0xffff_ffff)
+        Classes::from_bits(0xffff_ffff)
     }
 
     fn join(self, other: Classes) -> Classes
         ensures { result ≡ classes_operations.join self other }
     {
-        Classes::of_number(self.bits | other.bits)
+        Classes::from_bits(self.bits | other.bits)
     }
 
     fn meet(self, other: Classes) -> Classes
         ensures { result ≡ classes_operations.meet self other }
     {
-        Classes::of_number(self.bits & other.bits)
+        Classes::from_bits(self.bits & other.bits)
     }
 
+    #[tactic(auto, using(crate::specs::KindLaws::classes_decided))]
     fn is_below(self, other: Classes) -> bool
         ensures value { result ≡ classes_leq self other }
         ensures exact { Decides result (Included self other) }
     {
-        self.is_subset(other)
+        self.bits & other.bits == self.bits
     }
 }

@@ -22,47 +22,40 @@ impl Kind for Level {
     fn lowest() -> Level
         ensures { result ≡ level_operations.lowest }
     {
-        Level::of_number(0)
+        Level::new(0)
     }
 
     fn highest() -> Level
         ensures { result ≡ level_operations.highest }
     {
-        Level::of_number(65535)
+        Level::new(65535)
     }
 
     fn join(self, other: Level) -> Level
         ensures { result ≡ level_operations.join self other }
     {
-        if other.value >= self.value {
-            other
-        } else {
-            self
-        }
+        self.max(other)
     }
 
     fn meet(self, other: Level) -> Level
         ensures { result ≡ level_operations.meet self other }
     {
-        if other.value <= self.value {
-            other
-        } else {
-            self
-        }
+        self.min(other)
     }
 
     fn is_below(self, other: Level) -> bool
         ensures value { result ≡ level_leq self other }
         ensures exact { Decides result (level_number self ≤ level_number other) }
     {
-        self.value <= other.value
+        self <= other
     }
 }
 
 impl Level {
     /// The level of a number, all of it: a level is its number and nothing else.
-    fn of_number(value: u16) -> Level
-        ensures { result ≡ level value }
+    pub fn new(value: u16) -> Level
+        ensures number { result.value ≡ value }
+        ensures whole { result ≡ level value }
     {
         Level { value }
     }

@@ -7,17 +7,21 @@ ghost use Rattle.lattice.specs.Decoded.{level_read};
 
 use crate::kinds::Kind;
 use crate::levels::Level;
-use crate::records::Stored;
+use crate::records::{Stored, write_record};
 
 /// Two bytes, the low one first.
 impl Stored for Level {
     const WIDTH: usize = 2;
+
+    ghost WIDTH = { 2 };
 
     ghost size = { 2 };
 
     ghost parsed = { parsed_level };
 
     ghost written = { level_record };
+
+    ghost width = { Prim.search rules };
 
     ghost narrow = { Prim.search rules };
 
@@ -27,29 +31,17 @@ impl Stored for Level {
 
     ghost whole = { Prim.search rules };
 
-    fn record_size() -> usize
-        ensures { result ≡ 2 }
-    {
-        Self::WIDTH
-    }
-
     fn decode(bytes: &[u8]) -> Option<Level>
         ensures { result ≡ parsed_level bytes.now }
     {
-        match bytes {
-            [low, high] => Some(Level::new(u16::from_le_bytes([*low, *high]))),
-            _ => None,
-        }
+        let record = <[u8; 2]>::try_from(bytes).ok()?;
+        Some(Level::new(u16::from_le_bytes(record)))
     }
 
     fn encode(self, bytes: &mut [u8]) -> bool
         ensures fits { result ≡ (length bytes.old == 2) }
         ensures bytes { bytes.new ≡ recorded 2 (level_record self) bytes.old }
     {
-        if bytes.len() != Self::WIDTH {
-            return false;
-        }
-        bytes.copy_from_slice(&self.value().to_le_bytes());
-        true
+        write_record(&self.value().to_le_bytes(), bytes)
     }
 }

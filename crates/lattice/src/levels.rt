@@ -5,7 +5,7 @@ ghost use Rattle.std.specs.Prelude.{◌≡◌, ◌<◌, Some, decimal};
 use std::fmt;
 
 /// A number from 0 to 65,535, in the usual order.
-#[derive(Clone, Copy, PartialEq, Eq, Debug)]
+#[derive(Clone, Copy, PartialEq, Eq, PartialOrd, Ord, Debug)]
 #[repr(C)]
 pub struct Level {
     pub(crate) value: u16,
@@ -13,13 +13,6 @@ pub struct Level {
 }
 
 impl Level {
-    /// The level of a number.
-    pub fn new(value: u16) -> Level
-        ensures { result.value ≡ value }
-    {
-        Level { value }
-    }
-
     /// The number of this level.
     pub fn value(self) -> u16
         ensures { result ≡ self.value }
@@ -33,7 +26,6 @@ impl fmt::Display for Level {
     ghost output = { λ x. Some (decimal x.value) };
 
     fn fmt<W: fmt::Write>(&self, f: &mut fmt::Formatter<W>) -> fmt::Result {
-        let value = self.value;
-        write!(f, "{value}")
+        write!(f, "{}", self.value)
     }
 }

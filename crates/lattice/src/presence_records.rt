@@ -6,17 +6,21 @@ ghost use Rattle.std.proofs.Common.{rules};
 
 use crate::kinds::Kind;
 use crate::presences::Presence;
-use crate::records::Stored;
+use crate::records::{Stored, write_record};
 
 /// One byte: 0 is absent and 1 present.
 impl Stored for Presence {
     const WIDTH: usize = 1;
+
+    ghost WIDTH = { 1 };
 
     ghost size = { 1 };
 
     ghost parsed = { parsed_presence };
 
     ghost written = { presence_record };
+
+    ghost width = { Prim.search rules };
 
     ghost narrow = { Prim.search rules };
 
@@ -26,21 +30,12 @@ impl Stored for Presence {
 
     ghost whole = { Prim.search rules };
 
-    fn record_size() -> usize
-        ensures { result ≡ 1 }
-    {
-        Self::WIDTH
-    }
-
     fn decode(bytes: &[u8]) -> Option<Presence>
         ensures { result ≡ parsed_presence bytes.now }
     {
-        let [byte] = bytes else {
-            return None;
-        };
-        match *byte {
-            0 => Some(Presence::Absent),
-            1 => Some(Presence::Present),
+        match bytes {
+            [0] => Some(Presence::Absent),
+            [1] => Some(Presence::Present),
             _ => None,
         }
     }
@@ -49,13 +44,6 @@ impl Stored for Presence {
         ensures fits { result ≡ (length bytes.old == 1) }
         ensures bytes { bytes.new ≡ recorded 1 (presence_record self) bytes.old }
     {
-        if bytes.len() != Self::WIDTH {
-            return false;
-        }
-        match self {
-            Presence::Absent => bytes.copy_from_slice(&[0]),
-            Presence::Present => bytes.copy_from_slice(&[1]),
-        }
-        true
+        write_record(&[self as u8], bytes)
     }
 }

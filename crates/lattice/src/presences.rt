@@ -1,7 +1,7 @@
 //! The kind of weights that are there or not.
 
 ghost use Rattle.std.specs.Prelude.{◌≡◌, Some, decimal, Decides};
-ghost use Rattle.lattice.specs.Presences.{presence_below, presence_leq, presence_number, presence_operations, PresenceKind};
+ghost use Rattle.lattice.specs.Presences.{presence_below, presence_leq, presence_number, presence_operations, present_if, PresenceKind};
 ghost use Rattle.lattice.specs.KindLaws.{presence_lattice};
 ghost use Rattle.std.proofs.Common.{rules};
 
@@ -9,7 +9,7 @@ use crate::kinds::Kind;
 use std::fmt;
 
 /// Whether something is there: absent is below present.
-#[derive(Clone, Copy, PartialEq, Eq, Debug)]
+#[derive(Clone, Copy, PartialEq, Eq, PartialOrd, Ord, Debug)]
 #[repr(u8)]
 pub enum Presence {
     Absent,
@@ -21,6 +21,19 @@ impl Presence {
     pub fn meaning()
         ensures { PresenceKind presence_below presence_operations }
     {}
+}
+
+/// Present where the test answers yes.
+impl From<bool> for Presence {
+    ghost from_gives = { λ test x. x ≡ present_if test };
+
+    fn from(test: bool) -> Presence {
+        if test {
+            Presence::Present
+        } else {
+            Presence::Absent
+        }
+    }
 }
 
 impl Kind for Presence {
@@ -49,29 +62,20 @@ impl Kind for Presence {
     fn join(self, other: Presence) -> Presence
         ensures { result ≡ presence_operations.join self other }
     {
-        match self {
-            Presence::Absent => other,
-            Presence::Present => Presence::Present,
-        }
+        self.max(other)
     }
 
     fn meet(self, other: Presence) -> Presence
         ensures { result ≡ presence_operations.meet self other }
     {
-        match self {
-            Presence::Absent => Presence::Absent,
-            Presence::Present => other,
-        }
+        self.min(other)
     }
 
     fn is_below(self, other: Presence) -> bool
         ensures value { result ≡ presence_leq self other }
         ensures exact { Decides result (presence_below self other) }
     {
-        match self {
-            Presence::Absent => true,
-            Presence::Present => matches!(other, Presence::Present),
-        }
+        self <= other
     }
 }
 
@@ -80,10 +84,6 @@ impl fmt::Display for Presence {
     ghost output = { λ x. Some (decimal (presence_number x)) };
 
     fn fmt<W: fmt::Write>(&self, f: &mut fmt::Formatter<W>) -> fmt::Result {
-        let number: u8 = match self {
-            Presence::Absent => 0,
-            Presence::Present => 1,
-        };
-        write!(f, "{number}")
+        write!(f, "{}", *self as u8)
     }
 }

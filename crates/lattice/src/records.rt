@@ -10,7 +10,9 @@ pub trait Stored: Kind {
     /// How many bytes a record has: 1 to 8.
     const WIDTH: usize;
 
-    /// How many bytes a record has.
+    ghost WIDTH: { ℕ };
+
+    /// How many bytes a record has, as the constant.
     ghost size: { ℕ };
 
     /// The value that bytes stand for, where they stand for one.
@@ -19,9 +21,12 @@ pub trait Stored: Kind {
     /// The record of a value.
     ghost written: { Self → List ℕ };
 
-    /// How many bytes a record has, as [`Stored::WIDTH`]. Generic code calls this, since a constant promises nothing.
+    /// How many bytes a record has: [`Stored::WIDTH`].
     fn record_size() -> usize
-        ensures { result ≡ size };
+        ensures { result ≡ size }
+    {
+        Self::WIDTH
+    }
 
     /// The value that the bytes stand for. Bytes of another length than a record's stand for none.
     fn decode(bytes: &[u8]) -> Option<Self>
@@ -33,6 +38,8 @@ pub trait Stored: Kind {
         ensures fits { result ≡ (length bytes.old == size) }
         ensures bytes { bytes.new ≡ recorded size (written self) bytes.old };
 
+    ghost width: { WIDTH ≡ size };
+
     ghost narrow: { (1 ≤ size) × (size ≤ 8) };
 
     ghost sized: { (x : Self) → length (written x) ≡ size };
@@ -40,4 +47,17 @@ pub trait Stored: Kind {
     ghost read_back: { (x : Self) → parsed (written x) ≡ Some x };
 
     ghost whole: { (bytes : List ℕ) → (length bytes == size) ≡ false → parsed bytes ≡ None };
+}
+
+/// Writes a record to the bytes and answers yes. Bytes of another length than the record's are left as they are, and the answer
+/// is no.
+pub(crate) fn write_record<const N: usize>(content: &[u8; N], bytes: &mut [u8]) -> bool
+    ensures fits { result ≡ (length bytes.old == N) }
+    ensures bytes { bytes.new ≡ recorded N content.now bytes.old }
+{
+    if bytes.len() != N {
+        return false;
+    }
+    bytes.copy_from_slice(content);
+    true
 }

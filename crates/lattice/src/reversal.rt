@@ -69,7 +69,6 @@ impl<K: fmt::Display> fmt::Display for Reversed<K> {
     ghost output = { λ x. K.Display.output x.inner };
 
     fn fmt<W: fmt::Write>(&self, f: &mut fmt::Formatter<W>) -> fmt::Result {
-        let inner = &self.inner;
-        write!(f, "{inner}")
+        write!(f, "{}", self.inner)
     }
 }

@@ -12,7 +12,11 @@ use crate::reversal::Reversed;
 impl<K: Stored> Stored for Reversed<K> {
     const WIDTH: usize = K::WIDTH;
 
+    ghost WIDTH = { K.Stored.WIDTH };
+
     ghost size = { K.Stored.size };
+
+    ghost width = { K.Stored.width };
 
     ghost parsed = { λ bs. reversed_option (K.Stored.parsed bs) };
 
@@ -26,19 +30,10 @@ impl<K: Stored> Stored for Reversed<K> {
 
     ghost whole = { Prim.search rules };
 
-    fn record_size() -> usize
-        ensures { result ≡ K.Stored.size }
-    {
-        K::record_size()
-    }
-
     fn decode(bytes: &[u8]) -> Option<Self>
         ensures { result ≡ reversed_option (K.Stored.parsed bytes.now) }
     {
-        match K::decode(bytes) {
-            Some(inner) => Some(Reversed { inner }),
-            None => None,
-        }
+        K::decode(bytes).map(|inner| Reversed { inner })
     }
 
     fn encode(self, bytes: &mut [u8]) -> bool

@@ -11,10 +11,14 @@ fn reversed(value: u16) -> Reversed<Level> {
 }
 
 /// Checks that a call was refused as no reading: number 17, place 0, part reading.
-fn check_refused(rt: &impl Abort, refusal: Refusal) {
+fn check_refused<R: Reading + Drop>(rt: &impl Abort, made: Result<R, Refusal>) -> Result<(), Fail> {
+    let Err(refusal) = made else {
+        return Err(Fail::new("no reading, but accepted"));
+    };
     assert_eq!(rt; refusal.number(), 17);
     assert_eq!(rt; refusal.place(), 0);
     assert_eq!(rt; refusal.part(), Part::Reading);
+    Ok(())
 }
 
 // A type with ghost fields takes no more memory than its number.
@@ -152,13 +156,8 @@ fn reversed_records(rt: HostRuntime) {
 
 #[test]
 fn level_cuts(rt: HostRuntime) -> Result<(), Fail> {
-    let Err(refusal) = LevelCut::new(Level::new(0)) else {
-        return Err(Fail::new("a cut at the lowest level"));
-    };
-    check_refused(&rt, refusal);
-    let Ok(cut) = LevelCut::new(Level::new(5)) else {
-        return Err(Fail::new("5 is not the lowest level"));
-    };
+    check_refused(&rt, LevelCut::new(Level::new(0)))?;
+    let cut = LevelCut::new(Level::new(5))?;
     assert_eq!(rt; cut.threshold(), Level::new(5));
     assert_eq!(rt; cut.read(Level::new(5)), Presence::Present);
     assert_eq!(rt; cut.read(Level::new(4)), Presence::Absent);
@@ -179,13 +178,8 @@ fn level_cuts(rt: HostRuntime) -> Result<(), Fail> {
 
 #[test]
 fn reversed_level_cuts(rt: HostRuntime) -> Result<(), Fail> {
-    let Err(refusal) = ReversedLevelCut::new(reversed(65535)) else {
-        return Err(Fail::new("a cut at the lowest reversed level"));
-    };
-    check_refused(&rt, refusal);
-    let Ok(cut) = ReversedLevelCut::new(reversed(5)) else {
-        return Err(Fail::new("5 is not the lowest reversed level"));
-    };
+    check_refused(&rt, ReversedLevelCut::new(reversed(65535)))?;
+    let cut = ReversedLevelCut::new(reversed(5))?;
     assert_eq!(rt; cut.threshold(), reversed(5));
     assert_eq!(rt; cut.read(reversed(5)), Presence::Present);
     assert_eq!(rt; cut.read(reversed(4)), Presence::Present);
@@ -196,13 +190,8 @@ fn reversed_level_cuts(rt: HostRuntime) -> Result<(), Fail> {
 
 #[test]
 fn presence_cuts(rt: HostRuntime) -> Result<(), Fail> {
-    let Err(refusal) = PresenceCut::new(Presence::Absent) else {
-        return Err(Fail::new("a cut at absent"));
-    };
-    check_refused(&rt, refusal);
-    let Ok(cut) = PresenceCut::new(Presence::Present) else {
-        return Err(Fail::new("present is not the lowest"));
-    };
+    check_refused(&rt, PresenceCut::new(Presence::Absent))?;
+    let cut = PresenceCut::new(Presence::Present)?;
     assert_eq!(rt; cut.threshold(), Presence::Present);
     assert_eq!(rt; cut.read(Presence::Present), Presence::Present);
     assert_eq!(rt; cut.read(Presence::Absent), Presence::Absent);
@@ -211,14 +200,9 @@ fn presence_cuts(rt: HostRuntime) -> Result<(), Fail> {
 
 #[test]
 fn class_picks(rt: HostRuntime) -> Result<(), Fail> {
-    let Err(refusal) = ClassPick::new(32) else {
-        return Err(Fail::new("there is no class 32"));
-    };
-    check_refused(&rt, refusal);
+    check_refused(&rt, ClassPick::new(32))?;
     assert!(rt; ClassPick::new(255).is_err());
-    let Ok(pick) = ClassPick::new(31) else {
-        return Err(Fail::new("there is a class 31"));
-    };
+    let pick = ClassPick::new(31)?;
     assert_eq!(rt; pick.class(), 31);
     assert_eq!(rt;
         pick.read(Classes::from_bits(0x8000_0000)),

@@ -3,6 +3,7 @@ use Rattle.std.specs.Prelude.{ℕ, Bool, true, false, cond, ◌==◌, nat_lt}
 use Rattle.refusal.specs.Reports.{Answer, accepted, refused}
 use Rattle.refusal.specs.declared.Part.TheVariants as part
 use Rattle.lattice.specs.ClassSets.{has_class}
+use Rattle.lattice.specs.Lattices.{Operations}
 use Rattle.lattice.specs.Levels.{level_number}
 use Rattle.lattice.specs.Presences.{present_if}
 use Rattle.lattice.specs.declared.class_sets.Classes.{Classes}
@@ -18,6 +19,10 @@ cut_at leq t x = present_if (leq t x)
 -- the class pick of c: present to the sets that class c is in
 abbrev pub pick_of : ℕ → Classes → Presence
 pick_of c x = present_if (has_class c x)
+
+-- t is the lowest value of a chain, by its test: t is below it
+abbrev pub lowest_of : {K : Type 0} → (K → K → Bool) → Operations K → K → Bool
+lowest_of leq k t = leq t k.lowest
 
 abbrev pub lowest_level : Level → Bool
 lowest_level t = level_number t == 0

@@ -50,10 +50,6 @@ impl Reading for ClassPick {
         ensures value { result ≡ pick_of self.now.class weight }
         ensures exact { (result ≡ Present → has_class self.now.class weight ≡ true) × (has_class self.now.class weight ≡ true → result ≡ Present) }
     {
-        if weight.has(self.class) {
-            Presence::Present
-        } else {
-            Presence::Absent
-        }
+        Presence::from(weight.has(self.class))
     }
 }

@@ -28,14 +28,13 @@ pub enum Part {
 
 impl fmt::Display for Part {
     fn fmt<W: fmt::Write>(&self, f: &mut fmt::Formatter<W>) -> fmt::Result {
-        let name = match self {
+        f.write_str(match self {
             Part::Graph => "graph",
             Part::Sheet => "sheet",
             Part::Word => "word",
             Part::Recipe => "recipe",
             Part::Reading => "reading",
-        };
-        write!(f, "{name}")
+        })
     }
 }
 
@@ -193,10 +192,13 @@ impl Refusal {
 
 impl fmt::Display for Refusal {
     fn fmt<W: fmt::Write>(&self, f: &mut fmt::Formatter<W>) -> fmt::Result {
-        let number = self.number();
-        let place = self.place();
-        let part = self.part();
-        let explanation = self.explanation();
-        write!(f, "{part}, rule {number}, place {place}: {explanation}")
+        write!(
+            f,
+            "{}, rule {}, place {}: {}",
+            self.part(),
+            self.number(),
+            self.place(),
+            self.explanation()
+        )
     }
 }

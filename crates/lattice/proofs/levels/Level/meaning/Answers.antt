@@ -1,5 +1,6 @@
-use Rattle.lattice.proofs.KindMeanings.{level_kind}
+use Rattle.std.proofs.Common.{rules}
+use Rattle.lattice.specs.SameValues.{same_level}
 use Rattle.lattice.proofs.levels.Level.meaning.Goals as goal
 
 pub returns : goal.returns
-returns c = level_kind
+returns c = search (rules, same_level)
