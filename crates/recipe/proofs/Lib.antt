@@ -1,6 +1,5 @@
 -- The lemmas of the crate; other crates see those on legal words.
 mod Accepting
-mod Admitting
 mod Answering
 mod Departing
 mod Exactly

@@ -1,6 +1,6 @@
 //! A recipe from its text.
 
-ghost use Rattle.std.specs.Prelude.{◌≡◌, ℕ, ◌↔◌, List, [], take};
+ghost use Rattle.std.specs.Prelude.{◌≡◌, ℕ, ◌↔◌, List, []};
 ghost use Rattle.refusal.specs.declared.Part.{Part};
 ghost use Rattle.refusal.specs.Reports.{answer, accepted, refused};
 ghost use Rattle.recipe.specs.declared.turns.Turn.TheVariants.{Free};
@@ -15,7 +15,8 @@ use crate::recipes::Recipe;
 use crate::scanning::word_end;
 use crate::tokens::read_word;
 use crate::turns::Turn;
-use crate::words::{MAX_WORDS, Word};
+use crate::words::Word;
+use arrayvec::ArrayVec;
 use refusal::Refusal;
 
 /// The most bytes that a recipe text has.
@@ -23,16 +24,12 @@ pub const MAX_TEXT_LEN: usize = 4096;
 
 /// The draft of a text of this length as a recipe, unless something is still held.
 fn finish(draft: Draft, len: usize) -> Result<Recipe, Refusal>
-    requires { draft.turn ≡ Free → Legal (take draft.len draft.words) }
-    ensures { read_answer result ≡ ended len (take draft.len draft.words) draft.turn }
+    requires { draft.turn ≡ Free → Legal draft.words.items }
+    ensures { read_answer result ≡ ended len draft.words.items draft.turn }
 {
-    let Draft {
-        words,
-        len: count,
-        turn,
-    } = draft;
+    let Draft { words, turn } = draft;
     match turn {
-        Turn::Free => Ok(Recipe { words, len: count }),
+        Turn::Free => Ok(Recipe { words }),
         Turn::Held => Err(Refusal::StillHeld(len)),
     }
 }
@@ -67,8 +64,8 @@ impl Recipe {
     pub fn empty() -> Recipe
         ensures { recipe_words result ≡ [] }
     {
-        let words = [Word::Forget; MAX_WORDS];
-        Recipe { words, len: 0 }
+        let words = ArrayVec::new();
+        Recipe { words }
     }
 
     /// Reads a text, as `read` does, into this place. A refusal leaves the place as it was.
@@ -85,6 +82,6 @@ impl Recipe {
         ensures is { result.now ≡ recipe_words self.now }
         ensures legal { Legal result.now }
     {
-        &self.words[0..self.len]
+        self.words.as_slice()
     }
 }

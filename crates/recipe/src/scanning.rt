@@ -5,7 +5,8 @@ ghost use Rattle.recipe.specs.Judging.{word_run, start, progress, step_answer, a
 
 use crate::drafts::Draft;
 use crate::turns::Turn;
-use crate::words::{MAX_WORDS, Word};
+use crate::words::Word;
+use arrayvec::ArrayVec;
 use refusal::Refusal;
 
 impl Draft {
@@ -14,8 +15,7 @@ impl Draft {
         ensures { progress result ≡ start }
     {
         Draft {
-            words: [Word::Forget; MAX_WORDS],
-            len: 0,
+            words: ArrayVec::new(),
             turn: Turn::Free,
         }
     }
@@ -24,14 +24,13 @@ impl Draft {
     pub(crate) fn admit(&mut self, word: Word, at: usize) -> Result<(), Refusal>
         ensures { step_answer result (progress self.new) ≡ admitted at word (progress self.old) }
     {
-        if self.len >= MAX_WORDS {
+        if self.words.is_full() {
             return Err(Refusal::TooManyWords(at));
         }
         let Some(turn) = self.turn.after(word) else {
             return Err(Refusal::WordOutOfTurn(at));
         };
-        self.words[self.len] = word;
-        self.len += 1;
+        self.words.push(word);
         self.turn = turn;
         Ok(())
     }
