@@ -6,6 +6,7 @@ mod Exactly
 pub mod Legality
 mod Meaning
 mod Numbering
+mod Parting
 mod Placing
 mod Refusing
 mod RoundTrip

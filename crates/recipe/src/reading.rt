@@ -12,7 +12,6 @@ ghost use Rattle.recipe.specs.Contents.{recipe_words, read_answer, without_words
 
 use crate::drafts::Draft;
 use crate::recipes::Recipe;
-use crate::scanning::word_end;
 use crate::tokens::read_word;
 use crate::turns::Turn;
 use crate::words::Word;
@@ -47,15 +46,11 @@ impl Recipe {
         }
         let mut draft = Draft::new();
         let mut at = 0;
-        while at < text.len() {
-            if text[at] == b' ' {
-                at += 1;
-            } else {
-                let end = word_end(text, at);
-                let word = read_word(&text[at..end], at)?;
-                draft.admit(word, at)?;
-                at = end;
+        for word in text.split(|b| *b == b' ') {
+            if !word.is_empty() {
+                draft.admit(read_word(word, at)?, at)?;
             }
+            at += word.len() + 1;
         }
         finish(draft, text.len())
     }

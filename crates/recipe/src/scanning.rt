@@ -1,7 +1,7 @@
 //! Words one after another.
 
-ghost use Rattle.std.specs.Prelude.{◌≡◌, ◌+◌, ◌≤◌, length, drop};
-ghost use Rattle.recipe.specs.Judging.{word_run, start, progress, step_answer, admitted};
+ghost use Rattle.std.specs.Prelude.{◌≡◌};
+ghost use Rattle.recipe.specs.Judging.{start, progress, step_answer, admitted};
 
 use crate::drafts::Draft;
 use crate::turns::Turn;
@@ -34,17 +34,4 @@ impl Draft {
         self.turn = turn;
         Ok(())
     }
-}
-
-/// Where the word that goes on at `from` ends.
-pub(crate) fn word_end(text: &[u8], from: usize) -> usize
-    requires { from ≤ length text.now }
-    ensures is { result ≡ from + word_run (drop from text.now) }
-    ensures within { result ≤ length text.now }
-{
-    let mut end = from;
-    while end < text.len() && text[end] != b' ' {
-        end += 1;
-    }
-    end
 }
