@@ -1,18 +1,14 @@
 -- The words of a recipe, put one after another.
-use Rattle.std.proofs.Common.{◌≡◌, ℕ, ◌+◌, ◌<◌, ◌≤◌, List, [], ◌++◌, length, get_or, take, sym, ap, ◌∙◌, arith, length-append}
+use Rattle.std.proofs.Common.{◌≡◌, ℕ, ◌+◌, ◌<◌, ◌≤◌, List, [], ◌++◌, length, get_or, take, ap, arith, length-append}
+use Rattle.std.proofs.lemmas.List.Folds.{length-flat_map-take}
 use Rattle.std.proofs.lemmas.Slice.{first_rest}
 use Rattle.std.specs.List.{between, flat_map}
-use Rattle.std.proofs.lemmas.List.{flat_map_more, take_more}
 use Rattle.filters.specs.declared.families.Family.TheVariants.{Dilation}
 use Rattle.recipe.specs.declared.words.Word.{Word}
 use Rattle.recipe.specs.Legal.{Legal}
 use Rattle.recipe.specs.Shapes.{step_of}
 use Rattle.recipe.specs.Written.{spelling, spaced, written}
 use Rattle.recipe.proofs.RoundTrip.{short_written}
-
--- one word more after a space
-pub joined_next : (ws : List Word) (i : ℕ) (d : Word) → i < length ws → flat_map spaced (take (i + 1) ws) ≡ flat_map spaced (take i ws) ++ spaced (get_or ws i d)
-joined_next ws i d h = ap (flat_map spaced) (take_more ws i d h) ∙ sym (flat_map_more spaced [] (take i ws) (get_or ws i d))
 
 -- what a read of a word past the end would give
 abbrev pub past : Word
@@ -32,3 +28,9 @@ module _ (ws : List Word) (some : 0 < length ws) where
   -- the text of a recipe has room
   pub room : Legal ws → length first + length others ≤ 480
   room legal = omega (arith, legal.few, short_written ws legal.sizes, ap length written_first, length-append first others)
+
+  -- and so it has for one more word, after the first and some of the others
+  pub room_next : Legal ws → (none one text : List ℕ) (i : ℕ) → none ≡ [] → one ≡ none ++ first → text ≡ one ++ flat_map spaced (take i (between 1 (length ws) ws)) → i < length (between 1 (length ws) ws) → length text + length (spaced (get_or (between 1 (length ws) ws) i past)) ≤ 480
+  room_next legal none one text i begins begun is here =
+      let rest : List Word = between 1 (length ws) ws in
+      omega (arith, room legal, ap length begins, ap length begun, ap length is, length-append none first, length-append one (flat_map spaced (take i rest)), length-flat_map-take spaced rest i past here)

@@ -6,6 +6,7 @@ use Rattle.refusal.specs.declared.Part.{Part}
 use Rattle.refusal.specs.declared.Part.TheVariants as part
 use Rattle.refusal.specs.Reports.{Answer, accepted, refused}
 use Rattle.recipe.specs.Judging.{in_word, opens, word_run, Run, before, runs, Progress, start, read_runs, finished, judge}
+use Rattle.recipe.proofs.Shaping.{front_within}
 
 -- no space among the bytes
 abbrev pub Inside : List ℕ → Type 0
@@ -20,10 +21,6 @@ pub front_ends : (t : List ℕ) → opens (drop (word_run t) t) ≡ false
 front_ends [] = refl
 front_ends (b ∷ bs) = cond_both (in_word b) (suc (word_run bs)) 0 (λ n. opens (drop n (b ∷ bs)) ≡ false) (λ e. front_ends bs) (λ e. e)
 
-pub front_within : (t : List ℕ) → word_run t ≤ length t
-front_within [] = omega arith
-front_within (b ∷ bs) = cond_both (in_word b) (suc (word_run bs)) 0 (λ n. n ≤ suc (length bs)) (λ e. omega (arith, front_within bs)) (λ e. omega arith)
-
 -- a word and what follows it
 pub run_word : (at b : ℕ) (bs rest : List ℕ) → Inside (b ∷ bs) → opens rest ≡ false → runs at ((b ∷ bs) ++ rest) ≡ record { place = at; bytes = b ∷ bs } ∷ runs (at + length (b ∷ bs)) rest
 run_word at b [] rest h e = λ i. before at b (h.0 i) (e i) (runs (at + 1) rest)
@@ -35,7 +32,7 @@ run_word at b (c ∷ cs) rest h e =
 pub run_next : (at : ℕ) (t : List ℕ) → opens t ≡ true → runs at t ≡ record { place = at; bytes = take (word_run t) t } ∷ runs (at + word_run t) (drop (word_run t) t)
 run_next at [] e = absurd (omega (arith, ap (λ b. cond {A = ℕ} b 0 1) e))
 run_next at (b ∷ bs) e =
-    let long : length (take (word_run bs) bs) ≡ word_run bs = length-take-le (word_run bs) bs (front_within bs) in
+    let long : length (take (word_run bs) bs) ≡ word_run bs = length-take-le (word_run bs) bs (front_within in_word bs) in
     subst (λ n. runs at (b ∷ bs) ≡ record { place = at; bytes = take n (b ∷ bs) } ∷ runs (at + n) (drop n (b ∷ bs)))
     (sym (cond-true (in_word b) (suc (word_run bs)) 0 e))
     (ap (λ l. runs at (b ∷ l)) (sym (take-append-drop (word_run bs) bs))

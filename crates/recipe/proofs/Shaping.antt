@@ -1,11 +1,16 @@
--- Lemmas on digits.
-use Rattle.std.proofs.Common.{◌≡◌, ℕ, suc, ◌+◌, ◌-◌, ◌*◌, min, Bool, cond, List, [], ◌∷◌, ◌++◌, refl, ap, ◌∙◌, arith}
+-- Lemmas on the front of a word, and on its digits.
+use Rattle.std.proofs.Common.{◌≡◌, ℕ, suc, ◌+◌, ◌-◌, ◌*◌, ◌≤◌, min, Bool, cond, List, [], ◌∷◌, ◌++◌, length, refl, ap, ◌∙◌, arith}
+use Rattle.std.proofs.lemmas.Bool.{cond_both}
 use Rattle.std.specs.List.{prefix_len, fold}
 use Rattle.recipe.specs.Shapes.{front, numeral}
 
 pub front_is : (p : ℕ → Bool) (xs : List ℕ) → front p xs ≡ prefix_len p xs
 front_is p [] = refl
 front_is p (x ∷ xs) = ap (λ n. cond (p x) n 0) (ap suc (front_is p xs) ∙ omega arith)
+
+pub front_within : (p : ℕ → Bool) (xs : List ℕ) → front p xs ≤ length xs
+front_within p [] = omega arith
+front_within p (x ∷ xs) = cond_both (p x) (suc (front p xs)) 0 (λ n. n ≤ suc (length xs)) (λ e. omega (arith, front_within p xs)) (λ e. omega arith)
 
 pub numeral_push : (n : ℕ) (xs : List ℕ) (y : ℕ) → numeral n (xs ++ y ∷ []) ≡ numeral n xs * 10 + (y - 48)
 numeral_push n [] y = refl

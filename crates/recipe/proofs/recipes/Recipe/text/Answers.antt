@@ -1,9 +1,6 @@
 -- What is left to show of recipes::Recipe::text.
-use Rattle.std.proofs.Common.{◌<◌, length, take, ap, length-append, arith, rules}
-use Rattle.std.specs.List.{flat_map, between}
-use Rattle.std.proofs.lemmas.List.Folds.{length-flat_map-take}
-use Rattle.recipe.specs.Written.{spaced}
-use Rattle.recipe.proofs.Placing.{past, first, room}
+use Rattle.std.proofs.Common.{◌<◌, length, ap, arith, rules}
+use Rattle.recipe.proofs.Placing.{room, room_next}
 use Rattle.recipe.proofs.recipes.Recipe.text.Goals as goal
 
 pub push_word-requires : goal.push_word-requires
@@ -13,37 +10,12 @@ push_word-requires c =
 
 pub push-requires : goal.push-requires
 push-requires c =
-    let ws = c.words.result.now in
-    let some : 0 < length ws = search rules in
-    let rest = between 1 (length ws) ws in
-    let i = c.loop-word.word-index in (
-      omega arith,
-      omega (
-        arith,
-        ap length c.new-text.ensures,
-        ap length c.push_word.ensures,
-        ap length c.loop-word.invariant,
-        length-append c.new-text.result.items (first ws some),
-        length-append c.push_word.new.text.items (flat_map spaced (take i rest)),
-        length-flat_map-take spaced rest i past c.loop-word-test.true,
-        room ws some c.words.ensures.legal,
-      ),
-    )
+    let some : 0 < length c.words.result.now = search rules in
+    let free = room_next c.words.result.now some c.words.ensures.legal c.new-text.result.items c.push_word.new.text.items c.loop-word.text.items c.loop-word.word-index c.new-text.ensures c.push_word.ensures c.loop-word.invariant c.loop-word-test.true in
+    (omega arith, omega arith)
 
 pub push_word-requires-in-loop-word : goal.push_word-requires-in-loop-word
 push_word-requires-in-loop-word c =
-    let ws = c.words.result.now in
-    let some : 0 < length ws = search rules in
-    let rest = between 1 (length ws) ws in
-    let i = c.loop-word.word-index in
-    omega (
-      arith,
-      ap length c.new-text.ensures,
-      ap length c.push_word.ensures,
-      ap length c.loop-word.invariant,
-      c.push.ensures.len,
-      length-append c.new-text.result.items (first ws some),
-      length-append c.push_word.new.text.items (flat_map spaced (take i rest)),
-      length-flat_map-take spaced rest i past c.loop-word-test.true,
-      room ws some c.words.ensures.legal,
-    )
+    let some : 0 < length c.words.result.now = search rules in
+    let free = room_next c.words.result.now some c.words.ensures.legal c.new-text.result.items c.push_word.new.text.items c.loop-word.text.items c.loop-word.word-index c.new-text.ensures c.push_word.ensures c.loop-word.invariant c.loop-word-test.true in
+    omega (arith, c.push.ensures.len)
