@@ -1,5 +1,5 @@
 -- An accepted answer is no refused one, and equal refusals say the same.
-use Rattle.std.proofs.Common.{◌≡◌, ℕ, ap, subst}
+use Rattle.std.proofs.Common.{◌≡◌, ℕ, subst}
 use Rattle.refusal.specs.declared.Part.{Part}
 use Rattle.refusal.specs.Reports.{Answer, accepted, refused}
 
@@ -12,18 +12,10 @@ pub same_refusal : {A : Type 0} (P : ℕ → ℕ → Part → Type 0) {n at n' a
 same_refusal P h x = subst (OfRefusal P) h x
 
 pub not_accepted : {A X : Type 0} {x : A} {n at : ℕ} {p : Part} → ◌≡◌ {A = Answer A} (refused n at p) (accepted x) → X
-not_accepted h = absurd (subst (OfRefusal (λ n at p. Unit {0})) h tt)
-
-abbrev Accepts : {A : Type 0} → Answer A → Type 0
-Accepts (accepted x) = Unit {0}
-Accepts (refused n at p) = ⊥
+not_accepted h = absurd (cc)
 
 pub not_refused : {A X : Type 0} {x : A} {n at : ℕ} {p : Part} → ◌≡◌ {A = Answer A} (accepted x) (refused n at p) → X
-not_refused h = absurd (subst Accepts h tt)
-
-abbrev value_or : {A : Type 0} → A → Answer A → A
-value_or y (accepted x) = x
-value_or y (refused n at p) = y
+not_refused h = absurd (cc)
 
 pub same_value : {A : Type 0} {x y : A} → ◌≡◌ {A = Answer A} (accepted x) (accepted y) → x ≡ y
-same_value {x = x} h = ap (value_or x) h
+same_value h = cc

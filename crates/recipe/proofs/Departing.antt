@@ -10,6 +10,7 @@ use Rattle.recipe.specs.Departs.{Alone, Departs}
 use Rattle.recipe.specs.Grammar.{Digits, Number, letter}
 use Rattle.recipe.specs.Shapes.{is_digit, digit_run, number_run, Parsed, step, hold, join, meet, forget, step_shape, alone_shape, first_shape, shape_of}
 use Rattle.recipe.proofs.Answering.{not_refused}
+use Rattle.recipe.proofs.Shaping.{front_within}
 use Rattle.recipe.proofs.Spelling.{number_run_whole, number_some}
 
 digit_parts : (d : ℕ) → is_digit d ≡ true → (48 ≤ d) × (d ≤ 57)
@@ -50,13 +51,9 @@ number_stop (d ∷ ds) rest h n =
     (λ e l n. digits_stop (d ∷ ds) rest l n.1)
     h n
 
-digits_within : (ds : List ℕ) → digit_run ds ≤ length ds
-digits_within [] = omega arith
-digits_within (d ∷ ds) = cond_both (is_digit d) (suc (digit_run ds)) 0 (λ n. n ≤ suc (length ds)) (λ e. omega (arith, digits_within ds)) (λ e. omega arith)
-
 run_within : (ds : List ℕ) → number_run ds ≤ length ds
 run_within [] = omega arith
-run_within (d ∷ ds) = cond_both (eqb d 48) 0 (digit_run (d ∷ ds)) (λ n. n ≤ suc (length ds)) (λ e. omega arith) (λ e. digits_within (d ∷ ds))
+run_within (d ∷ ds) = cond_both (eqb d 48) 0 (digit_run (d ∷ ds)) (λ n. n ≤ suc (length ds)) (λ e. omega arith) (λ e. front_within is_digit (d ∷ ds))
 
 alone_apart : (b : ℕ) → Alone b → (f : Family) → b ≡ letter f → ⊥
 alone_apart b a Dilation e = grind arith
@@ -113,8 +110,8 @@ module _ (at b : ℕ) (bs : List ℕ) (n place : ℕ) (p : Part) where
       more = [];
       begins = inr (a, refl);
       within = omega arith;
-      departs = λ l rest s. ⊎_elim (λ n. alone_apart b a n.0 n.1) (λ x. let y : ◌≡◌ {A = ℕ} (suc (length rest)) 0 = ap length x.1 in omega arith) s;
-      wrong = λ s. ⊎_elim (λ n. alone_apart b a n.0 n.1) (λ x. let y : ◌≡◌ {A = ℕ} (suc (length cs)) 0 = ap length x.1 in omega arith) s;
+      departs = λ l rest s. ⊎_elim (λ n. alone_apart b a n.0 n.1) (λ x. cc) s;
+      wrong = λ s. ⊎_elim (λ n. alone_apart b a n.0 n.1) (λ x. cc) s;
     }),
   )
 

@@ -1,5 +1,5 @@
 -- The words of every recipe, and of every text that is accepted, are legal.
-use Rattle.std.proofs.Common.{◌≡◌, ℕ, zero, suc, ◌<◌, true, List, [], ◌∷◌, length, get_or, arith, length-take}
+use Rattle.std.proofs.Common.{◌≡◌, ℕ, zero, suc, ◌<◌, true, List, [], ◌∷◌, length, get_or, arith}
 use Rattle.std.proofs.lemmas.Bool.{and_parts}
 use Rattle.refusal.specs.Reports.{accepted}
 use Rattle.recipe.specs.declared.recipes.Recipe.{Recipe}
@@ -21,11 +21,7 @@ judge_legal text ws h =
     }
 
 pub recipe_legal : (recipe : Recipe) → Legal (recipe_words recipe)
-recipe_legal recipe = record {
-  few = simp length-take (omega (arith, recipe.few, recipe.whole));
-  sizes = recipe.sizes;
-  fit = recipe.fit;
-}
+recipe_legal recipe = recipe.legal
 
 -- legal words lead from a free turn to a free one
 pub legal_leads : (ws : List Word) → Legal ws → Leads Free ws Free

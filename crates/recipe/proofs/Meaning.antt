@@ -1,5 +1,5 @@
 -- What a run of the reader means.
-use Rattle.std.proofs.Common.{◌≡◌, ℕ, ◌+◌, ◌<◌, ◌≤◌, true, ◌||◌, eqb, ltb, leb, List, [], ◌∷◌, ◌++◌, length, Some, None, Option, sym, refl, ap, ◌∙◌, subst, append_assoc, append-nil, arith}
+use Rattle.std.proofs.Common.{◌≡◌, ◌+◌, ◌<◌, ◌≤◌, true, ◌||◌, eqb, ltb, leb, List, [], ◌∷◌, ◌++◌, length, Some, None, Option, sym, refl, ap, ◌∙◌, subst, append_assoc, append-nil, arith}
 use Rattle.std.proofs.lemmas.List.{length_push}
 use Rattle.std.proofs.lemmas.Bool.{cond_both, leb-false, cond-false, lt-leb, and_from}
 use Rattle.std.proofs.lemmas.Bool.Decides.{nat_tests}
@@ -80,10 +80,10 @@ leads_fits t (w ∷ ws) l = ap (λ o. if_turn o (λ next. fits next ws)) l.1 ∙
 
 free_only : (t : Turn) → is_free t ≡ true → t ≡ Free
 free_only Free e = refl
-free_only Held e = absurd (let z : ◌≡◌ {A = ℕ} 0 1 = cc in omega arith)
+free_only Held e = absurd (cc)
 
 fits_leads_by : (t : Turn) (w : Word) (ws : List Word) (o : Option Turn) → ((next : Turn) → fits next ws ≡ true → Leads next ws Free) → turned t w ≡ o → if_turn o (λ next. fits next ws) ≡ true → Leads t (w ∷ ws) Free
-fits_leads_by t w ws None later is h = absurd (let z : ◌≡◌ {A = ℕ} 0 1 = cc in omega arith)
+fits_leads_by t w ws None later is h = absurd (cc)
 fits_leads_by t w ws (Some next) later is h = (next, is, later next h)
 
 pub fits_leads : (t : Turn) (ws : List Word) → fits t ws ≡ true → Leads t ws Free

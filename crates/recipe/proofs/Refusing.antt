@@ -17,8 +17,9 @@ use Rattle.recipe.specs.Turns.{turned}
 use Rattle.recipe.proofs.Answering.{same_refusal, not_refused}
 use Rattle.recipe.proofs.Departing.{shape_departs}
 use Rattle.recipe.proofs.Meaning.{read_means}
-use Rattle.recipe.proofs.Running.{Inside, front_ends, front_inside, front_within, run_next, refused_stays}
+use Rattle.recipe.proofs.Running.{Inside, front_ends, front_inside, run_next, refused_stays}
 use Rattle.recipe.proofs.Accepting.{after_space, some_run, opens_ends, means_spells}
+use Rattle.recipe.proofs.Shaping.{front_within}
 use Rattle.recipe.proofs.Spelling.{word_spells, shape_step}
 
 inside_no_space : (bs : List ℕ) → Inside bs → NoSpace bs
@@ -100,7 +101,7 @@ module _ (b : ℕ) (bs : List ℕ) (at : ℕ) (p : Progress) (n place : ℕ) (q 
   left = drop (word_run text) text
 
   long : length word ≡ word_run text
-  long = length-take-le (word_run text) text (front_within text)
+  long = length-take-le (word_run text) text (front_within in_word text)
 
   here : length p.words ≤ 96 → Fault p.words p.turn at word n place q → FirstFault at p.words p.turn text n place q
   here few f = record {

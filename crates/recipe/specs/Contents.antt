@@ -1,13 +1,13 @@
 -- The words of a recipe, and what reading a text answers by them.
-use Rattle.std.specs.Prelude.{List, take, Ok, Err, Result}
+use Rattle.std.specs.Prelude.{List, Ok, Err, Result}
 use Rattle.refusal.specs.declared.Refusal.{Refusal}
 use Rattle.refusal.specs.Reports.{Answer, accepted, refused, refusal_answer}
 use Rattle.recipe.specs.declared.recipes.Recipe.{Recipe}
 use Rattle.recipe.specs.declared.words.Word.{Word}
 
--- the words, without the places of the array past them
+-- the words, in their order
 abbrev pub recipe_words : Recipe → List Word
-recipe_words r = take r.len r.words
+recipe_words r = r.words.items
 
 -- a result as an answer, a recipe by its words
 abbrev pub read_answer : Result Recipe Refusal → Answer (List Word)

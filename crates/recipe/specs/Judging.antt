@@ -1,5 +1,5 @@
 -- A whole text, word by word: the words that it is, or why it is refused.
-use Rattle.std.specs.Prelude.{ℕ, ◌+◌, Bool, true, false, cond, not, List, [], ◌∷◌, ◌++◌, length, take, Some, None, Ok, Err, Option, Result, ◌==◌, nat_le, nat_lt}
+use Rattle.std.specs.Prelude.{ℕ, ◌+◌, Bool, true, false, cond, not, List, [], ◌∷◌, ◌++◌, length, Some, None, Ok, Err, Option, Result, ◌==◌, nat_le, nat_lt}
 use Rattle.refusal.specs.declared.Part.TheVariants as part
 use Rattle.refusal.specs.declared.Refusal.{Refusal}
 use Rattle.refusal.specs.Reports.{Answer, accepted, refused, refusal_answer}
@@ -51,7 +51,7 @@ start = record { words = []; turn = Free }
 
 -- what a draft has so far
 abbrev pub progress : Draft → Progress
-progress d = record { words = take d.len d.words; turn = d.turn }
+progress d = record { words = d.words.items; turn = d.turn }
 
 -- a result as an answer, with what there is after it
 abbrev pub step_answer : Result (Unit {0}) Refusal → Progress → Answer Progress

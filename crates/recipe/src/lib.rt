@@ -7,7 +7,6 @@
 mod drafts;
 mod reading;
 mod recipes;
-mod scanning;
 mod showing;
 mod tokens;
 mod turns;

@@ -1,6 +1,6 @@
 //! A recipe from its text.
 
-ghost use Rattle.std.specs.Prelude.{◌≡◌, ℕ, ◌↔◌, List, [], take};
+ghost use Rattle.std.specs.Prelude.{◌≡◌, ℕ, ◌↔◌, List, []};
 ghost use Rattle.refusal.specs.declared.Part.{Part};
 ghost use Rattle.refusal.specs.Reports.{answer, accepted, refused};
 ghost use Rattle.recipe.specs.declared.turns.Turn.TheVariants.{Free};
@@ -12,10 +12,10 @@ ghost use Rattle.recipe.specs.Contents.{recipe_words, read_answer, without_words
 
 use crate::drafts::Draft;
 use crate::recipes::Recipe;
-use crate::scanning::word_end;
 use crate::tokens::read_word;
 use crate::turns::Turn;
-use crate::words::{MAX_WORDS, Word};
+use crate::words::Word;
+use arrayvec::ArrayVec;
 use refusal::Refusal;
 
 /// The most bytes that a recipe text has.
@@ -23,16 +23,12 @@ pub const MAX_TEXT_LEN: usize = 4096;
 
 /// The draft of a text of this length as a recipe, unless something is still held.
 fn finish(draft: Draft, len: usize) -> Result<Recipe, Refusal>
-    requires { draft.turn ≡ Free → Legal (take draft.len draft.words) }
-    ensures { read_answer result ≡ ended len (take draft.len draft.words) draft.turn }
+    requires { draft.turn ≡ Free → Legal draft.words.items }
+    ensures { read_answer result ≡ ended len draft.words.items draft.turn }
 {
-    let Draft {
-        words,
-        len: count,
-        turn,
-    } = draft;
+    let Draft { words, turn } = draft;
     match turn {
-        Turn::Free => Ok(Recipe { words, len: count }),
+        Turn::Free => Ok(Recipe { words }),
         Turn::Held => Err(Refusal::StillHeld(len)),
     }
 }
@@ -50,15 +46,11 @@ impl Recipe {
         }
         let mut draft = Draft::new();
         let mut at = 0;
-        while at < text.len() {
-            if text[at] == b' ' {
-                at += 1;
-            } else {
-                let end = word_end(text, at);
-                let word = read_word(&text[at..end], at)?;
-                draft.admit(word, at)?;
-                at = end;
+        for word in text.split(|b| *b == b' ') {
+            if !word.is_empty() {
+                draft.admit(read_word(word, at)?, at)?;
             }
+            at += word.len() + 1;
         }
         finish(draft, text.len())
     }
@@ -67,8 +59,8 @@ impl Recipe {
     pub fn empty() -> Recipe
         ensures { recipe_words result ≡ [] }
     {
-        let words = [Word::Forget; MAX_WORDS];
-        Recipe { words, len: 0 }
+        let words = ArrayVec::new();
+        Recipe { words }
     }
 
     /// Reads a text, as `read` does, into this place. A refusal leaves the place as it was.
@@ -85,6 +77,6 @@ impl Recipe {
         ensures is { result.now ≡ recipe_words self.now }
         ensures legal { Legal result.now }
     {
-        &self.words[0..self.len]
+        self.words.as_slice()
     }
 }

@@ -29,6 +29,7 @@ impl fmt::Display for Word {
 }
 
 /// As `Display`.
+// Kept by hand, since a derive would print the case with its fields, and not the text.
 impl fmt::Debug for Word {
     fn fmt<W: fmt::Write>(&self, f: &mut fmt::Formatter<W>) -> fmt::Result {
         write!(f, "{self}")
@@ -52,6 +53,7 @@ impl fmt::Display for Recipe {
 }
 
 /// As `Display`.
+// Kept by hand, since a derive would print the field with the words, and not the text.
 impl fmt::Debug for Recipe {
     fn fmt<W: fmt::Write>(&self, f: &mut fmt::Formatter<W>) -> fmt::Result {
         write!(f, "{self}")

@@ -2,7 +2,7 @@
 
 ghost use Rattle.std.specs.Prelude.{◌≡◌, ◌+◌, ◌≤◌, min, length};
 ghost use Rattle.refusal.specs.Reports.{answer};
-ghost use Rattle.recipe.specs.Shapes.{is_digit, digit_run, number_run, numeral, parsed, token_answer, sized, step_shape, alone_shape, shape_of, word_of};
+ghost use Rattle.recipe.specs.Shapes.{digit_run, number_run, numeral, parsed, token_answer, sized, shape_of, word_of};
 
 use crate::words::{MAX_SIZE, Word};
 use filters::{Family, Filter};
@@ -18,26 +18,12 @@ pub(crate) enum Token<'a> {
     Forget(&'a [u8], usize),
 }
 
-fn is_digit(byte: u8) -> bool
-    ensures { result ≡ is_digit byte }
-{
-    match byte as char {
-        '0'..='9' => true,
-        _ => false,
-    }
-}
-
 /// How many digits stand at the front.
 fn digits_at_front(bytes: &[u8]) -> usize
     ensures is { result ≡ digit_run bytes.now }
     ensures within { result ≤ length bytes.now }
 {
-    for (i, b) in bytes.iter().enumerate() {
-        if !is_digit(*b) {
-            return i;
-        }
-    }
-    bytes.len()
+    bytes.iter().take_while(|b| b.is_ascii_digit()).count()
 }
 
 /// How many bytes at the front belong to a number whose first digit is not 0.
@@ -51,38 +37,14 @@ fn number_at_front(bytes: &[u8]) -> usize
     }
 }
 
-/// The number that the digits write, or 201 where it is larger: so it never overflows.
-fn capped_size(digits: &[u8]) -> u32
-    ensures { result ≡ min 201 (numeral 0 digits.now) }
+/// The number that the digits write, or `u32::MAX` where it is larger.
+fn saturated_size(digits: &[u8]) -> u32
+    ensures { result ≡ min (numeral 0 digits.now) 4294967295 }
 {
-    let mut size: u32 = 0;
-    for d in digits {
-        size = (size * 10 + u32::from(d.saturating_sub(b'0'))).min(MAX_SIZE + 1);
-    }
-    size
-}
-
-/// A letter that takes a size, with what follows it in the word.
-fn step(family: Family, digits: &[u8], at: usize) -> Result<Token<'_>, Refusal>
-    requires { at + length digits.now ≤ 4096 }
-    ensures { token_answer result ≡ step_shape at family digits.now }
-{
-    let run = number_at_front(digits);
-    if run == 0 || run < digits.len() {
-        return Err(Refusal::WordShape(at + 1 + run));
-    }
-    Ok(Token::Step(family, digits, at))
-}
-
-/// A letter that stands alone, with what follows it in the word.
-fn alone<'a>(token: Token<'a>, rest: &[u8], at: usize) -> Result<Token<'a>, Refusal>
-    requires { at + length rest.now ≤ 4096 }
-    ensures { token_answer result ≡ alone_shape at (parsed token.entry) rest.now }
-{
-    if rest.len() > 0 {
-        return Err(Refusal::WordShape(at + 1));
-    }
-    Ok(token)
+    digits.iter().fold(0, |size: u32, digit| {
+        size.saturating_mul(10)
+            .saturating_add(u32::from(digit.saturating_sub(b'0')))
+    })
 }
 
 impl<'a> Token<'a> {
@@ -94,16 +56,29 @@ impl<'a> Token<'a> {
         let [first, rest @ ..] = word else {
             return Err(Refusal::WordShape(at));
         };
+        let step = |family: Family| {
+            let run = number_at_front(rest);
+            if run == 0 || run < rest.len() {
+                return Err(Refusal::WordShape(at + 1 + run));
+            }
+            Ok(Token::Step(family, rest, at))
+        };
+        let alone = |token| {
+            if !rest.is_empty() {
+                return Err(Refusal::WordShape(at + 1));
+            }
+            Ok(token)
+        };
         match *first as char {
-            'D' => step(Family::Dilation, rest, at),
-            'E' => step(Family::Erosion, rest, at),
-            'O' => step(Family::Opening, rest, at),
-            'C' => step(Family::Closing, rest, at),
-            'A' => step(Family::Alternate, rest, at),
-            'H' => alone(Token::Hold(word, at), rest, at),
-            'J' => alone(Token::Join(word, at), rest, at),
-            'M' => alone(Token::Meet(word, at), rest, at),
-            'F' => alone(Token::Forget(word, at), rest, at),
+            'D' => step(Family::Dilation),
+            'E' => step(Family::Erosion),
+            'O' => step(Family::Opening),
+            'C' => step(Family::Closing),
+            'A' => step(Family::Alternate),
+            'H' => alone(Token::Hold(word, at)),
+            'J' => alone(Token::Join(word, at)),
+            'M' => alone(Token::Meet(word, at)),
+            'F' => alone(Token::Forget(word, at)),
             _ => Err(Refusal::WordShape(at)),
         }
     }
@@ -114,7 +89,7 @@ impl<'a> Token<'a> {
     {
         match self {
             Token::Step(family, digits, at) => {
-                let size = capped_size(digits);
+                let size = saturated_size(digits);
                 if size == 0 || size > MAX_SIZE {
                     return Err(Refusal::WordSize(at));
                 }

@@ -9,7 +9,7 @@ pub const MAX_WORDS: usize = 96;
 pub const MAX_SIZE: u32 = 200;
 
 /// A word: what one step of a recipe does.
-#[derive(Clone, Copy, PartialEq, Eq)]
+#[derive(Clone, Copy, PartialEq, Eq, Default)]
 pub enum Word {
     /// D, E, O, C or A with a size: the filter.
     Step(Filter),
@@ -19,6 +19,7 @@ pub enum Word {
     Join,
     /// M: the meet with the held copy.
     Meet,
-    /// F: let the held copy go.
+    /// F: let the held copy go. The default fills the places of an array past its words.
+    #[default]
     Forget,
 }

@@ -10,16 +10,12 @@ use std::io;
 fn print_answer(rt: HostRuntime, text: &[u8]) -> io::Result<()> {
     match Recipe::read(text) {
         Ok(recipe) => {
-            if recipe.words().len() == 0 {
+            if recipe.words().is_empty() {
                 return println!(rt; "accepted");
             }
             println!(rt; "accepted {recipe}")
         }
-        Err(refusal) => {
-            let number = refusal.number();
-            let place = refusal.place();
-            println!(rt; "refused {number} {place}")
-        }
+        Err(refusal) => { println!(rt; "refused {} {}", refusal.number(), refusal.place()) }
     }
 }
 

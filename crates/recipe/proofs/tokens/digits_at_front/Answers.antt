@@ -1,21 +1,15 @@
 -- What is left to show of tokens::digits_at_front.
-use Rattle.std.proofs.Common.{sym, arith}
-use Rattle.recipe.proofs.Shaping.{front_more, front_stop}
-use Rattle.std.proofs.lemmas.List.{at_drop_all}
-use Rattle.recipe.specs.Shapes.{is_digit, digit_run}
+use Rattle.std.proofs.Common.{sym, ◌∙◌, rules, tests}
+use Rattle.std.proofs.lemmas.Iterator.{YieldsList-from_slice}
+use Rattle.std.proofs.lemmas.Iterator.Consumers.{count_from_yields_List}
+use Rattle.std.proofs.lemmas.Iterator.Search.{YieldsList-from_take_while}
+use Rattle.std.proofs.lemmas.List.Folds.{length-prefix_len}
+use Rattle.recipe.specs.Shapes.{is_digit}
+use Rattle.recipe.proofs.Shaping.{front_is}
 use Rattle.recipe.proofs.tokens.digits_at_front.Goals as goal
 
-pub loop-i-preserved : goal.loop-i-preserved
-loop-i-preserved c = omega (arith, c.loop-i.invariant, front_more is_digit c.args.bytes.now c.loop-i.i c.loop-i-test.true (sym c.if-not-is_digit.ensures))
-
-pub returns-then-not-is_digit : goal.returns-then-not-is_digit
-returns-then-not-is_digit c = record {
-  is = omega (arith, c.loop-i.invariant, front_stop is_digit c.args.bytes.now c.loop-i.i c.loop-i-test.true (sym c.if-not-is_digit.ensures));
-  within = omega arith;
-}
-
-pub returns : goal.returns
-returns c = record {
-  is = omega (arith, c.loop-i.invariant, at_drop_all digit_run c.args.bytes.now c.loop-i.i (omega arith));
-  within = omega arith;
-}
+pub returns-clause-is : goal.returns-clause-is
+returns-clause-is c =
+    count_from_yields_List c.take_while.result _ c.count.ensures.ran (YieldsList-from_take_while _ is_digit (YieldsList-from_slice c.args.bytes.now (cc)) c.take_while.ensures.closure c.take_while.ensures.done (λ x b q k. search (rules, tests)))
+    ∙ length-prefix_len is_digit c.args.bytes.now
+    ∙ sym (front_is is_digit c.args.bytes.now)

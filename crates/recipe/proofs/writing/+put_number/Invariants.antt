@@ -1,5 +1,0 @@
--- The choices for writing::put_number: its measure.
-use Rattle.recipe.proofs.writing.+put_number.Given as goal
-
-abbrev pub decreases-put_number : goal.decreases-put_number
-decreases-put_number l = l.number
