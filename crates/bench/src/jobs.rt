@@ -1,6 +1,6 @@
 //! What to measure, as the arguments say it.
 
-use crate::meshes::Mesh;
+use crate::meshes::{Grid, Mesh};
 use anyhow::anyhow;
 use filters::{Family, Filter};
 
@@ -43,12 +43,12 @@ impl Job {
 }
 
 fn parse_grid(width: &str, height: &str) -> anyhow::Result<Mesh> {
-    match (width.parse::<u32>(), height.parse::<u32>()) {
-        (Ok(width), Ok(height)) if Mesh::grid_is_small(width, height) => {
-            Ok(Mesh::Grid { width, height })
-        }
-        _ => Err(anyhow!("W and H are at least 1, and W * H at most 1000000")),
+    if let (Ok(width), Ok(height)) = (width.parse::<u32>(), height.parse::<u32>())
+        && let Some(grid) = Grid::new(width, height)
+    {
+        return Ok(Mesh::Grid(grid));
     }
+    Err(anyhow!("W and H are at least 1, and W * H at most 1000000"))
 }
 
 fn parse_random(n: &str, m: &str, seed: &str) -> anyhow::Result<Mesh> {

@@ -1,6 +1,7 @@
 //! The weights to measure with.
 
 use crate::generator::Generator;
+use filters::WeightsMut;
 use graph::Edge;
 use lattice::{Kind, Level};
 use std::alloc::Global;
@@ -24,17 +25,22 @@ impl Buffers {
     /// The starting weights: those of the vertices by the generator, and each edge the meet of its ends.
     pub(crate) fn starting(heap: Global, n: usize, table: &[Edge]) -> anyhow::Result<Buffers> {
         let mut generator = Generator::new(1);
-        let mut vertices = Vec::new(heap);
-        for _ in 0..n {
-            vertices.push(Level::new(generator.upper_bits()))?;
-        }
-        let mut edges = Vec::new(heap);
-        for e in table {
-            let first = at(vertices.as_slice(), e.first);
-            let second = at(vertices.as_slice(), e.second);
-            edges.push(first.meet(second))?;
-        }
+        let vertices: Vec<Level> = (0..n)
+            .map(|_| Level::new(generator.upper_bits()))
+            .collect(heap)?;
+        let edges = table
+            .iter()
+            .map(|e| at(&vertices, e.first).meet(at(&vertices, e.second)))
+            .collect(heap)?;
         Ok(Buffers { vertices, edges })
+    }
+
+    /// The weights, for a call to work on.
+    pub(crate) fn lend(&mut self) -> WeightsMut<'_, '_, Level> {
+        WeightsMut {
+            vertices: &mut self.vertices,
+            edges: &mut self.edges,
+        }
     }
 
     /// Makes the weights those of the other.
@@ -55,19 +61,21 @@ impl Buffers {
 
 /// The weight of a vertex, lowest where there is no such vertex.
 fn at(vertices: &[Level], vertex: u32) -> Level {
-    match vertices.get(vertex as usize) {
-        Some(weight) => *weight,
-        None => Level::lowest(),
-    }
+    vertices
+        .get(vertex as usize)
+        .copied()
+        .unwrap_or(Level::lowest())
 }
 
 /// The hash after these weights, from the hash before them.
 fn hash_on(hash: u64, weights: &[Level]) -> u64 {
-    let mut hash = hash;
-    for weight in weights {
-        let [low, high] = weight.value().to_le_bytes();
-        hash = (hash ^ u64::from(low)).wrapping_mul(1099511628211);
-        hash = (hash ^ u64::from(high)).wrapping_mul(1099511628211);
-    }
-    hash
+    weights.iter().fold(hash, |hash, weight| {
+        weight
+            .value()
+            .to_le_bytes()
+            .iter()
+            .fold(hash, |hash, byte| {
+                (hash ^ u64::from(*byte)).wrapping_mul(1099511628211)
+            })
+    })
 }

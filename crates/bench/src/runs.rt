@@ -3,7 +3,7 @@
 use crate::jobs::Job;
 use crate::levels::Buffers;
 use anyhow::anyhow;
-use filters::{Filter, WeightsMut};
+use filters::Filter;
 use graph::{Graph, judge};
 use lattice::Kind;
 use std::time::{Duration, Instant};
@@ -16,21 +16,11 @@ fn time_apply(
     weights: &mut Buffers,
     scratch: &mut Buffers,
 ) -> anyhow::Result<Duration> {
-    let weights = WeightsMut {
-        vertices: weights.vertices.as_mut_slice(),
-        edges: weights.edges.as_mut_slice(),
-    };
-    let scratch = WeightsMut {
-        vertices: scratch.vertices.as_mut_slice(),
-        edges: scratch.edges.as_mut_slice(),
-    };
     let start = Instant::now(rt)?;
-    let answer = filter.apply(graph, weights, scratch);
+    let answer = filter.apply(graph, weights.lend(), scratch.lend());
     let time = start.elapsed(rt)?;
-    match answer {
-        Ok(()) => Ok(time),
-        Err(_) => Err(anyhow!("the filter was refused")),
-    }
+    answer.map_err(|_| anyhow!("the filter was refused"))?;
+    Ok(time)
 }
 
 /// Prints the best and the median of the times, and a checksum. The median of an even number is the later of the two middle ones.
@@ -66,8 +56,8 @@ fn repeat_on(rt: &HostRuntime, job: Job, graph: &Graph) -> anyhow::Result<()> {
 pub(crate) fn measure(rt: &HostRuntime, job: Job) -> anyhow::Result<()> {
     let table = job.mesh.edges(rt.alloc())?;
     let mut graph = Graph::empty();
-    match judge(&mut graph, job.mesh.order(), table.as_slice()) {
-        Ok(()) => repeat_on(rt, job, &graph),
-        Err(_) => Err(anyhow!("the edge table makes no graph")),
-    }
+    judge(&mut graph, job.mesh.order(), table.as_slice()).map_err(|_| anyhow!(
+        "the edge table makes no graph"
+    ))?;
+    repeat_on(rt, job, &graph)
 }

@@ -3,7 +3,7 @@
 use crate::jobs::{Job, Task};
 use crate::levels::{Buffers, Records};
 use anyhow::anyhow;
-use filters::{Filter, Weights, WeightsMut};
+use filters::{Filter, Weights};
 use graph::{Graph, judge};
 use lattice::{Kind, Level};
 use refusal::Refusal;
@@ -69,16 +69,10 @@ impl Bench {
     /// The checksum of what the task wrote.
     fn checksum(&self, heap: Global, task: Task) -> anyhow::Result<u64> {
         match task {
-            Task::Open => self.weights.checksum(heap),
-            Task::Step(_) => self.weights.checksum(heap),
+            Task::Open | Task::Step(_) => self.weights.checksum(heap),
             Task::Close => Ok(self.records.checksum()),
         }
     }
-}
-
-/// No edge records.
-fn absent() -> Option<&'static [u8]> {
-    None
 }
 
 /// Opens a sheet.
@@ -88,9 +82,22 @@ fn open<'g, 'e>(
     edge_records: Option<&[u8]>,
     weights: &mut Buffers,
 ) -> Result<Sheet<'g, 'e, Level, Clear>, Refusal> {
-    let vertices = weights.vertices.as_mut_slice();
-    let edges = weights.edges.as_mut_slice();
-    Sheet::open(graph, records, edge_records, WeightsMut { vertices, edges })
+    Sheet::open(graph, records, edge_records, weights.lend())
+}
+
+/// The time of a call, unless it is refused.
+fn timed<T: Drop, E: Drop, F: FnOnce() -> Result<T, E>>(
+    rt: &HostRuntime,
+    what: &str,
+    call: F,
+) -> anyhow::Result<Duration>
+    requires { F.pre call }
+{
+    let start = Instant::now(rt)?;
+    let answer = call();
+    let time = start.elapsed(rt)?;
+    answer.map_err(|_| anyhow!("{what} was refused"))?;
+    Ok(time)
 }
 
 /// The time of opening a sheet whose edge records are absent.
@@ -100,13 +107,7 @@ fn time_open(
     records: &[u8],
     weights: &mut Buffers,
 ) -> anyhow::Result<Duration> {
-    let start = Instant::now(rt)?;
-    let answer = open(graph, records, absent(), weights);
-    let time = start.elapsed(rt)?;
-    match answer {
-        Ok(_) => Ok(time),
-        Err(_) => Err(anyhow!("opening was refused")),
-    }
+    timed(rt, "opening", || open(graph, records, None, weights))
 }
 
 /// The time of one application of a filter.
@@ -117,21 +118,11 @@ fn time_step(
     weights: &mut Buffers,
     scratch: &mut Buffers,
 ) -> anyhow::Result<Duration> {
-    let weights = WeightsMut {
-        vertices: weights.vertices.as_mut_slice(),
-        edges: weights.edges.as_mut_slice(),
-    };
-    let scratch = WeightsMut {
-        vertices: scratch.vertices.as_mut_slice(),
-        edges: scratch.edges.as_mut_slice(),
-    };
-    let start = Instant::now(rt)?;
-    let answer = filter.apply(graph, weights, scratch);
-    let time = start.elapsed(rt)?;
-    match answer {
-        Ok(()) => Ok(time),
-        Err(_) => Err(anyhow!("the filter was refused")),
-    }
+    timed(
+        rt,
+        "the filter",
+        || filter.apply(graph, weights.lend(), scratch.lend()),
+    )
 }
 
 /// The time of closing a sheet, which is opened before.
@@ -142,22 +133,20 @@ fn time_close(
     weights: &mut Buffers,
     records: &mut Records,
 ) -> anyhow::Result<Duration> {
-    let Ok(sheet) = open(graph, start_records, absent(), weights) else {
-        return Err(anyhow!("opening was refused"));
-    };
+    let sheet = open(graph, start_records, None, weights).map_err(|_| anyhow!(
+        "opening was refused"
+    ))?;
     let weights = Weights {
         vertices: weights.vertices.as_slice(),
         edges: weights.edges.as_slice(),
     };
     let vertex_records = records.vertices.as_mut_slice();
     let edge_records = records.edges.as_mut_slice();
-    let start = Instant::now(rt)?;
-    let answer = sheet.close(weights, vertex_records, edge_records);
-    let time = start.elapsed(rt)?;
-    match answer {
-        Ok(()) => Ok(time),
-        Err(_) => Err(anyhow!("closing was refused")),
-    }
+    timed(
+        rt,
+        "closing",
+        || sheet.close(weights, vertex_records, edge_records),
+    )
 }
 
 /// Prints the best and the median of the times, and a checksum. The median of an even number is the later of the two middle ones.
@@ -188,8 +177,8 @@ fn repeat_on(rt: &HostRuntime, job: Job, graph: &Graph) -> anyhow::Result<()> {
 pub(crate) fn measure(rt: &HostRuntime, job: Job) -> anyhow::Result<()> {
     let table = job.mesh.edges(rt.alloc())?;
     let mut graph = Graph::empty();
-    match judge(&mut graph, job.mesh.order(), table.as_slice()) {
-        Ok(()) => repeat_on(rt, job, &graph),
-        Err(_) => Err(anyhow!("the edge table makes no graph")),
-    }
+    judge(&mut graph, job.mesh.order(), table.as_slice()).map_err(|_| anyhow!(
+        "the edge table makes no graph"
+    ))?;
+    repeat_on(rt, job, &graph)
 }

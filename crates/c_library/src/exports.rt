@@ -62,6 +62,7 @@ pub extern "C" fn evaluator_filter<'a>(
 ) -> u32
     ensures { Filters kind (input_of n graph.now vertices.now edges.now edges_absent recipe.now) (bytes_of_both vertices_out.old edges_out.old) (filtered (response result refusal.new) (bytes_of_both vertices_out.new edges_out.new)) }
 {
+    // C has no `Option`, so that a flag beside the records says whether there are any.
     let job = Job {
         n,
         graph,

@@ -4,10 +4,10 @@ ghost use Rattle.std.specs.Prelude.{◌≡◌};
 ghost use Rattle.refusal.specs.Reports.{report};
 ghost use Rattle.c_library.specs.Problems.{failure_problem, result_response};
 ghost use Rattle.c_library.specs.Responses.{number_of_part, response, three_numbers};
-ghost use Rattle.c_library.specs.declared.problems.Problem.TheVariants.{Refused as RefusedCase};
+ghost use Rattle.c_library.specs.declared.problems.Problem.TheVariants.{Refused as RefusedCase, NoKind as NoKindCase};
 
 use crate::refusal_records::RefusalRecord;
-use evaluation::Failure;
+use evaluation::{Failure, UnknownKind};
 use refusal::{Part, Refusal};
 
 /// Why a call does nothing.
@@ -40,7 +40,15 @@ impl From<Failure> for Problem {
     }
 }
 
-/// What a call answers, by its number.
+impl From<UnknownKind> for Problem {
+    ghost from_gives = { λ _ r. r ≡ NoKindCase };
+
+    fn from(_unknown: UnknownKind) -> Problem {
+        Problem::NoKind
+    }
+}
+
+/// What a call answers, by the number that C gets.
 #[derive(Clone, Copy)]
 enum Status {
     Accepted = 0,
@@ -49,7 +57,7 @@ enum Status {
     NoMemory = 3,
 }
 
-/// The number of a part.
+/// The number of a part, by which C knows it.
 fn part_number(part: Part) -> u64
     ensures { result ≡ number_of_part part }
 {
@@ -62,34 +70,34 @@ fn part_number(part: Part) -> u64
     }
 }
 
-/// A refusal as three numbers.
-fn record_of(why: Refusal) -> RefusalRecord
-    ensures { result ≡ three_numbers (report why).number (report why).place (number_of_part (report why).part) }
-{
-    RefusalRecord {
-        number: u64::from(why.number()),
-        place: why.place() as u64,
-        part: part_number(why.part()),
+impl From<Refusal> for RefusalRecord {
+    ghost from_gives = { λ why r. r ≡ three_numbers (report why).number (report why).place (number_of_part (report why).part) };
+
+    fn from(why: Refusal) -> RefusalRecord {
+        RefusalRecord {
+            number: u64::from(why.number()),
+            place: why.place() as u64,
+            part: part_number(why.part()),
+        }
     }
 }
+
+/// The record where nothing is refused.
+const NO_REFUSAL: RefusalRecord = RefusalRecord {
+    number: 0,
+    place: 0,
+    part: 0,
+};
 
 /// Sets the place of the refusal, and answers the number of the status.
 pub(crate) fn respond(res: Result<(), Problem>, place: &mut RefusalRecord) -> u32
     ensures { response result place.new ≡ result_response res }
 {
-    let mut refusal = RefusalRecord {
-        number: 0,
-        place: 0,
-        part: 0,
-    };
-    let status = match res {
-        Ok(()) => Status::Accepted,
-        Err(Problem::Refused(why)) => {
-            refusal = record_of(why);
-            Status::Refused
-        }
-        Err(Problem::NoKind) => Status::NoKind,
-        Err(Problem::NoMemory) => Status::NoMemory,
+    let (status, refusal) = match res {
+        Ok(()) => (Status::Accepted, NO_REFUSAL),
+        Err(Problem::Refused(why)) => (Status::Refused, RefusalRecord::from(why)),
+        Err(Problem::NoKind) => (Status::NoKind, NO_REFUSAL),
+        Err(Problem::NoMemory) => (Status::NoMemory, NO_REFUSAL),
     };
     *place = refusal;
     status as u32

@@ -46,7 +46,7 @@ pub(crate) fn filter(
 ) -> Result<(), Problem>
     ensures { Filters kind (input job.entry) (bytes_of_both vertices_out.old edges_out.old) (filtered (result_response result) (bytes_of_both vertices_out.new edges_out.new)) }
 {
-    let kind = KindName::from_number(kind).ok_or(Problem::NoKind)?;
+    let kind = KindName::try_from(kind)?;
     let evaluated = evaluate_as(heap, kind, job)?;
     if vertices_out.len() != evaluated.vertex_records.len()
         || edges_out.len() != evaluated.edge_records.len()

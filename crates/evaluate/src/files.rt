@@ -5,47 +5,23 @@ use evaluation::Evaluated;
 use std::fs;
 
 /// The bytes of a file.
-pub(crate) fn read_file(rt: &HostRuntime, name: &str) -> Result<Vec<u8>, Trouble> {
-    match fs::read(rt, name) {
-        Ok(bytes) => Ok(bytes),
-        Err(error) => {
-            eprintln!(rt; "evaluate: cannot read {name}: {error}")?;
-            Err(Trouble::Said)
-        }
-    }
-}
-
-/// The edge records, which may be absent.
-#[derive(Drop)]
-pub(crate) struct EdgeRecords {
-    present: bool,
-    bytes: Vec<u8>,
-}
-
-impl EdgeRecords {
-    /// The records, where there are any.
-    pub(crate) fn records(&self) -> Option<&[u8]> {
-        if self.present {
-            Some(self.bytes.as_slice())
-        } else {
-            None
-        }
-    }
+pub(crate) fn read_file<'a>(rt: &HostRuntime, name: &'a str) -> Result<Vec<u8>, Trouble<'a>> {
+    fs::read(rt, name).map_err(|error| Trouble::Unread { name, error })
 }
 
 /// The edge records of a file, or none for `-`.
-pub(crate) fn read_edges(rt: &HostRuntime, name: &str) -> Result<EdgeRecords, Trouble> {
-    let present = name != "-";
-    let bytes = if present {
-        read_file(rt, name)?
-    } else {
-        Vec::new(rt.alloc())
-    };
-    Ok(EdgeRecords { present, bytes })
+pub(crate) fn read_edges<'a>(
+    rt: &HostRuntime,
+    name: &'a str,
+) -> Result<Option<Vec<u8>>, Trouble<'a>> {
+    if name == "-" {
+        return Ok(None);
+    }
+    Ok(Some(read_file(rt, name)?))
 }
 
 /// The text of a recipe: the argument itself, or for `@FILE` what the file holds, without one final newline.
-pub(crate) fn read_recipe(rt: &HostRuntime, argument: &str) -> Result<Vec<u8>, Trouble> {
+pub(crate) fn read_recipe<'a>(rt: &HostRuntime, argument: &'a str) -> Result<Vec<u8>, Trouble<'a>> {
     let Some(name) = argument.strip_prefix('@') else {
         return Ok(Vec::from_slice(rt.alloc(), argument.as_bytes())?);
     };
@@ -57,19 +33,25 @@ pub(crate) fn read_recipe(rt: &HostRuntime, argument: &str) -> Result<Vec<u8>, T
 }
 
 /// Writes both files of records.
-pub(crate) fn write_both(
+pub(crate) fn write_both<'a>(
     rt: &HostRuntime,
-    vertices: &str,
-    edges: &str,
+    vertices: &'a str,
+    edges: &'a str,
     evaluated: &Evaluated,
-) -> Result<(), Trouble> {
+) -> Result<(), Trouble<'a>> {
     if let Err(error) = fs::write(rt, vertices, evaluated.vertex_records.as_slice()) {
-        eprintln!(rt; "evaluate: cannot write {vertices}: {error}; {edges} is as it was")?;
-        return Err(Trouble::Said);
+        return Err(Trouble::NoneWritten {
+            vertices,
+            edges,
+            error,
+        });
     }
     if let Err(error) = fs::write(rt, edges, evaluated.edge_records.as_slice()) {
-        eprintln!(rt; "evaluate: cannot write {edges}: {error}; {vertices} was written")?;
-        return Err(Trouble::Said);
+        return Err(Trouble::VerticesWritten {
+            vertices,
+            edges,
+            error,
+        });
     }
     Ok(())
 }

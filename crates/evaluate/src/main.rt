@@ -9,26 +9,15 @@ mod printing;
 mod requests;
 mod troubles;
 
-use evaluation::{Evaluated, Failure, Job, evaluate_as_with};
+use evaluation::{Evaluated, Job, evaluate_as_with};
 use files::{read_edges, read_file, read_recipe, write_both};
 use meters::Meter;
 use printing::print_evaluated;
-use requests::{Request, Target};
+use requests::{Request, Target, usage};
 use std::process::ExitCode;
 use std::time::Instant;
 use std::{env, io};
-use troubles::{Trouble, say_refused};
-
-fn usage() -> &'static str {
-    "usage: evaluate KIND N GRAPH VERTICES EDGES RECIPE VERTICES_OUT EDGES_OUT
-       evaluate KIND N GRAPH VERTICES EDGES RECIPE --print
-KIND is presence, level or classes, or one of them with reversed- in front.
-N is the number of vertices, and GRAPH a graph file.
-VERTICES and EDGES are record files; EDGES may be -, and then each edge gets the meet of its ends.
-RECIPE is the text of the recipe, or @FILE.
-The weights after the recipe are written to VERTICES_OUT and EDGES_OUT; with --print, also as the
-first argument, they are printed."
-}
+use troubles::Trouble;
 
 /// Says how many vertices, edges and words there were, and how long it took.
 fn print_summary(rt: &HostRuntime, start: Instant, evaluated: &Evaluated) -> io::Result<()> {
@@ -42,12 +31,12 @@ fn print_summary(rt: &HostRuntime, start: Instant, evaluated: &Evaluated) -> io:
 }
 
 /// Hands the records out.
-fn deliver(
+fn deliver<'a>(
     rt: &HostRuntime,
     start: Instant,
-    request: &Request<'_>,
+    request: &Request<'a>,
     evaluated: &Evaluated,
-) -> Result<(), Trouble> {
+) -> Result<(), Trouble<'a>> {
     match request.target {
         Target::Standard => {
             print_evaluated(rt, request.kind, evaluated)?;
@@ -61,7 +50,7 @@ fn deliver(
 }
 
 /// Reads the files, evaluates, and hands the records out.
-fn serve(rt: &HostRuntime, start: Instant, request: &Request<'_>) -> Result<(), Trouble> {
+fn serve<'a>(rt: &HostRuntime, start: Instant, request: &Request<'a>) -> Result<(), Trouble<'a>> {
     let graph = read_file(rt, request.graph)?;
     let vertices = read_file(rt, request.vertices)?;
     let edges = read_edges(rt, request.edges)?;
@@ -70,50 +59,41 @@ fn serve(rt: &HostRuntime, start: Instant, request: &Request<'_>) -> Result<(), 
         n: request.n,
         graph: graph.as_slice(),
         vertices: vertices.as_slice(),
-        edges: edges.records(),
+        edges: edges.as_deref(),
         recipe: recipe.as_slice(),
     };
     let mut meter = Meter::new(rt, start);
-    match evaluate_as_with(rt.alloc(), request.kind, job, &mut meter) {
-        Ok(evaluated) => deliver(rt, start, request, &evaluated),
-        Err(Failure::Refused(refusal)) => say_refused(rt, refusal),
-        Err(Failure::NoMemory) => Err(Trouble::NoMemory),
-    }
+    let evaluated = evaluate_as_with(rt.alloc(), request.kind, job, &mut meter)?;
+    deliver(rt, start, request, &evaluated)
 }
 
 /// Does what the arguments after the program's name ask for.
-fn answer(rt: &HostRuntime, start: Instant, words: &[String]) -> Result<(), Trouble> {
+fn answer<'a>(rt: &HostRuntime, start: Instant, words: &'a [String]) -> Result<(), Trouble<'a>> {
     match words {
-        [] => {
-            rt.println(usage())?;
-            Ok(())
-        }
-        [first, ..] if first.as_str() == "--help" => {
-            rt.println(usage())?;
-            Ok(())
-        }
-        _ => match Request::parse(words) {
-            Ok(request) => serve(rt, start, &request),
-            Err(misuse) => {
-                eprintln!(rt; "evaluate: {misuse}")?;
-                rt.eprintln(usage())?;
-                Err(Trouble::Said)
-            }
-        },
+        [] => Ok(rt.println(usage())?),
+        [first, ..] if first.as_str() == "--help" => Ok(rt.println(usage())?),
+        _ => serve(rt, start, &Request::parse(words)?),
     }
 }
 
-fn perform(rt: &HostRuntime) -> Result<(), Trouble> {
+/// Does what the arguments ask for, or says why not. What the answer has is a trouble that is still to be said.
+fn perform(rt: &HostRuntime) -> Result<ExitCode, Trouble<'static>> {
     let start = Instant::now(rt)?;
     let words: Vec<String> = env::args(rt)?.skip(1).collect(rt.alloc())?;
-    answer(rt, start, words.as_slice())
+    match answer(rt, start, words.as_slice()) {
+        Ok(()) => Ok(ExitCode::SUCCESS),
+        Err(trouble) => {
+            trouble.say(rt)?;
+            Ok(ExitCode::FAILURE)
+        }
+    }
 }
 
 fn main(rt: HostRuntime) -> ExitCode {
     match perform(&rt) {
-        Ok(()) => ExitCode::SUCCESS,
+        Ok(code) => code,
         Err(trouble) => {
-            trouble.say(&rt);
+            let _ = trouble.say(&rt);
             ExitCode::FAILURE
         }
     }

@@ -8,12 +8,10 @@ use std::io::{BufWriter, Stdout, Write};
 
 /// The number of a record, low byte first.
 fn number_of(record: &[u8]) -> u32 {
-    match record {
-        [byte] => u32::from(*byte),
-        [low, high] => u32::from(u16::from_le_bytes([*low, *high])),
-        [a, b, c, d] => u32::from_le_bytes([*a, *b, *c, *d]),
-        _ => 0,
-    }
+    record
+        .iter()
+        .rev()
+        .fold(0, |number, byte| (number << 8) | u32::from(*byte))
 }
 
 /// Writes the numbers of records on one line, one space between.

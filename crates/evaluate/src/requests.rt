@@ -4,6 +4,18 @@ use evaluation::KindName;
 use std::fmt;
 use std::num::IntErrorKind;
 
+/// How the program is called.
+pub(crate) fn usage() -> &'static str {
+    "usage: evaluate KIND N GRAPH VERTICES EDGES RECIPE VERTICES_OUT EDGES_OUT
+       evaluate KIND N GRAPH VERTICES EDGES RECIPE --print
+KIND is presence, level or classes, or one of them with reversed- in front.
+N is the number of vertices, and GRAPH a graph file.
+VERTICES and EDGES are record files; EDGES may be -, and then each edge gets the meet of its ends.
+RECIPE is the text of the recipe, or @FILE.
+The weights after the recipe are written to VERTICES_OUT and EDGES_OUT; with --print, also as the
+first argument, they are printed."
+}
+
 /// Where the weights go.
 #[derive(Clone, Copy)]
 pub enum Target<'a> {
@@ -58,15 +70,18 @@ fn parse_order(word: &str) -> Result<usize, Misuse<'_>> {
 
 /// The kind of a name.
 fn parse_kind(word: &str) -> Result<KindName, Misuse<'_>> {
-    KindName::parse(word).ok_or(Misuse::Kind(word))
+    word.parse().map_err(|_| Misuse::Kind(word))
 }
 
-/// Where the weights go, by the arguments after the recipe.
-fn parse_target<'a>(print: bool, words: &'a [String]) -> Result<Target<'a>, Misuse<'a>> {
-    match words {
-        [] if print => Ok(Target::Standard),
-        [word] if !print && word.as_str() == "--print" => Ok(Target::Standard),
-        [vertices, edges] if !print => {
+/// Where the weights go, by the option in front and the arguments after the recipe.
+fn parse_target<'a>(
+    front: Option<Target<'a>>,
+    words: &'a [String],
+) -> Result<Target<'a>, Misuse<'a>> {
+    match (front, words) {
+        (Some(target), []) => Ok(target),
+        (None, [word]) if word.as_str() == "--print" => Ok(Target::Standard),
+        (None, [vertices, edges]) => {
             let vertices = vertices.as_str();
             let edges = edges.as_str();
             if vertices == edges {
@@ -81,14 +96,10 @@ fn parse_target<'a>(print: bool, words: &'a [String]) -> Result<Target<'a>, Misu
 impl<'a> Request<'a> {
     /// Reads the arguments after the program's name.
     pub(crate) fn parse(words: &'a [String]) -> Result<Request<'a>, Misuse<'a>> {
-        match words {
-            [first, rest @ ..] if first.as_str() == "--print" => Request::parse_rest(true, rest),
-            _ => Request::parse_rest(false, words),
-        }
-    }
-
-    /// Reads the arguments without the option in front.
-    fn parse_rest(print: bool, words: &'a [String]) -> Result<Request<'a>, Misuse<'a>> {
+        let (front, words) = match words {
+            [first, rest @ ..] if first.as_str() == "--print" => (Some(Target::Standard), rest),
+            _ => (None, words),
+        };
         let [kind, n, graph, vertices, edges, recipe, rest @ ..] = words else {
             return Err(Misuse::Count);
         };
@@ -99,7 +110,7 @@ impl<'a> Request<'a> {
             vertices: vertices.as_str(),
             edges: edges.as_str(),
             recipe: recipe.as_str(),
-            target: parse_target(print, rest)?,
+            target: parse_target(front, rest)?,
         })
     }
 }

@@ -20,3 +20,7 @@ pub struct KindName {
     pub base: BaseKind,
     pub reversed: bool,
 }
+
+/// No kind has the name or the number.
+#[derive(Clone, Copy, PartialEq, Eq, Debug)]
+pub struct UnknownKind;

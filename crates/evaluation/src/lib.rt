@@ -20,4 +20,4 @@ pub use checking::check_graph;
 pub use choosing::{evaluate_as, evaluate_as_with};
 pub use evaluating::{evaluate, evaluate_with};
 pub use jobs::{Evaluated, Failure, Job};
-pub use kinds::{BaseKind, KindName};
+pub use kinds::{BaseKind, KindName, UnknownKind};

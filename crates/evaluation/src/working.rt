@@ -1,7 +1,8 @@
 //! The sheet of a graph: opened, run and closed.
 
-ghost use Rattle.std.specs.Prelude.{◌≡◌, ◌*◌, length, IfOk, vec_len};
+ghost use Rattle.std.specs.Prelude.{◌≡◌, ◌*◌, length, IfOk};
 ghost use Rattle.graph.specs.Shapes.{shape_of};
+ghost use Rattle.filters.specs.Weightings.{Fits, weighting, weights_before};
 ghost use Rattle.records.specs.Calls.{bytes_of_both};
 ghost use Rattle.evaluation.specs.Evaluations.{Gives, evaluated_on, input, stored_kind};
 ghost use Rattle.evaluation.specs.Sizes.{Sized};
@@ -17,41 +18,59 @@ use refusal::Refusal;
 use sheet::Sheet;
 use std::alloc::{AllocError, Global};
 
-/// As many weights as the count says. Which they are plays no part: the work begins by writing over them.
-fn lowest_weights<K: Kind>(heap: Global, count: usize) -> Result<Vec<K>, AllocError>
-    ensures { IfOk result (λ v. vec_len v ≡ count) }
-{
-    let mut weights = Vec::with_capacity(heap, count)?;
-    for _ in 0..count {
-        weights.push(K::lowest())?;
+/// Memory for the weights of a graph.
+#[derive(Drop)]
+struct Memory<K> {
+    vertices: Vec<K>,
+    edges: Vec<K>,
+}
+
+impl<K: Kind> Memory<K> {
+    /// A weight for each vertex and each edge. Which they are plays no part: the work begins by writing over them.
+    fn new(heap: Global, graph: &Graph) -> Result<Memory<K>, AllocError>
+        ensures { IfOk result (λ m. Fits (shape_of graph.now) (weighting m.vertices.items m.edges.items)) }
+    {
+        let mut vertices = Vec::new(heap);
+        vertices.resize(graph.order(), K::lowest())?;
+        let mut edges = Vec::new(heap);
+        edges.resize(graph.edges().len(), K::lowest())?;
+        Ok(Memory { vertices, edges })
     }
-    Ok(weights)
+
+    /// The weights, for a call to work on. What it leaves in them is read by nobody.
+    fn lend(&mut self) -> WeightsMut<'_, '_, K>
+        ensures { weights_before result ≡ weighting self.old.vertices.items self.old.edges.items }
+    {
+        WeightsMut {
+            vertices: &mut self.vertices,
+            edges: &mut self.edges,
+        }
+    }
 }
 
 /// Opens the sheet of a graph, runs the recipe on it and closes it to the byte buffers. Answers how many words were done.
 fn work<K: Stored, P: Progress>(
     graph: &Graph,
     job: Job<'_>,
-    vertices: &mut [K],
-    edges: &mut [K],
-    vertex_scratch: &mut [K],
-    edge_scratch: &mut [K],
-    held_vertices: &mut [K],
-    held_edges: &mut [K],
+    weights: WeightsMut<'_, '_, K>,
+    scratch: WeightsMut<'_, '_, K>,
+    held: WeightsMut<'_, '_, K>,
     vertex_records: &mut [u8],
     edge_records: &mut [u8],
     progress: &mut P,
 ) -> Result<usize, Refusal>
-    requires vertices { length vertices.old ≡ graph.now.n }
-    requires edges { length edges.old ≡ length graph.now.edges.now }
-    requires vertex_scratch { length vertex_scratch.old ≡ graph.now.n }
-    requires edge_scratch { length edge_scratch.old ≡ length graph.now.edges.now }
-    requires held_vertices { length held_vertices.old ≡ graph.now.n }
-    requires held_edges { length held_edges.old ≡ length graph.now.edges.now }
+    requires weights { Fits (shape_of graph.now) (weights_before weights) }
+    requires scratch { Fits (shape_of graph.now) (weights_before scratch) }
+    requires held { Fits (shape_of graph.now) (weights_before held) }
     requires vertex_records { length vertex_records.old ≡ graph.now.n * K.Stored.size }
     requires edge_records { length edge_records.old ≡ length graph.now.edges.now * K.Stored.size }
     ensures { Counts (evaluated_on (stored_kind K.Kind.operations K.Kind.leq K.Stored.size K.Stored.parsed K.Stored.written) (shape_of graph.now) (input job.entry)) (shape_of graph.now) (bytes_of_both vertex_records.new edge_records.new) result }
 {
+    let WeightsMut { vertices, edges } = scratch;
+    let scratch = WeightsMut { vertices, edges };
+    let WeightsMut { vertices, edges } = held;
+    let held = WeightsMut { vertices, edges };
+    let WeightsMut { vertices, edges } = weights;
     let sheet = Sheet::open(
         graph,
         job.vertices,
@@ -60,14 +79,6 @@ fn work<K: Stored, P: Progress>(
     )?;
     let mut recipe = Recipe::empty();
     let weights = WeightsMut { vertices, edges };
-    let scratch = WeightsMut {
-        vertices: vertex_scratch,
-        edges: edge_scratch,
-    };
-    let held = WeightsMut {
-        vertices: held_vertices,
-        edges: held_edges,
-    };
     sheet.run_with(job.recipe, &mut recipe, weights, scratch, held, progress)?;
     let weights = Weights { vertices, edges };
     sheet.close(weights, vertex_records, edge_records)?;
@@ -87,23 +98,15 @@ fn work_in_memory<K: Stored, P: Progress>(
     requires edge_records { length edge_records.old ≡ length graph.now.edges.now * K.Stored.size }
     ensures { CountsInMemory (evaluated_on (stored_kind K.Kind.operations K.Kind.leq K.Stored.size K.Stored.parsed K.Stored.written) (shape_of graph.now) (input job.entry)) (shape_of graph.now) (bytes_of_both vertex_records.new edge_records.new) result }
 {
-    let n = graph.order();
-    let m = graph.edges().len();
-    let mut vertices = lowest_weights::<K>(heap, n)?;
-    let mut edges = lowest_weights::<K>(heap, m)?;
-    let mut vertex_scratch = lowest_weights::<K>(heap, n)?;
-    let mut edge_scratch = lowest_weights::<K>(heap, m)?;
-    let mut held_vertices = lowest_weights::<K>(heap, n)?;
-    let mut held_edges = lowest_weights::<K>(heap, m)?;
+    let mut weights = Memory::<K>::new(heap, graph)?;
+    let mut scratch = Memory::<K>::new(heap, graph)?;
+    let mut held = Memory::<K>::new(heap, graph)?;
     let words = work(
         graph,
         job,
-        &mut vertices,
-        &mut edges,
-        &mut vertex_scratch,
-        &mut edge_scratch,
-        &mut held_vertices,
-        &mut held_edges,
+        weights.lend(),
+        scratch.lend(),
+        held.lend(),
         vertex_records,
         edge_records,
         progress,

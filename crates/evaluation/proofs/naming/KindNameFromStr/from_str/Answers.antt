@@ -1,7 +1,8 @@
 use Rattle.std.proofs.Common.{suc, not, ◌++◌, codes, sym, ap, ◌∙◌, rules}
+use Rattle.std.proofs.lemmas.Result.{err_from_is_err_and}
 use Rattle.evaluation.specs.Kinds.{reversals}
 use Rattle.evaluation.proofs.Spelling.{one_more, no_kind}
-use Rattle.evaluation.proofs.kinds.KindName.parse.Goals as goal
+use Rattle.evaluation.proofs.naming.KindNameFromStr.from_str.Goals as goal
 
 pub loop-rest-preserved : goal.loop-rest-preserved
 loop-rest-preserved c =
@@ -14,4 +15,5 @@ pub returns-in_err-base : goal.returns-in_err-base
 returns-in_err-base c =
     let taken = c.loop-rest.invariant.1 in
     let left = c.in_default.ensures.cases in
-    rw c.from_residual.ensures (λ kind names. no_kind taken.0 names.count c.loop-rest.name.now kind.base left (c.in_err-base.ensures kind.base) (sym taken.1 ∙ names.spelled))
+    let exit = err_from_is_err_and c.from_residual.result c.from_residual.ensures.1 in
+    rw exit.1 (λ kind names. no_kind taken.0 names.count c.loop-rest.name.now kind.base left (c.in_err-base.ensures.value kind.base) (sym taken.1 ∙ names.spelled))

@@ -2,7 +2,7 @@ use Rattle.std.proofs.Common.{◌≡◌, ℕ, length}
 use denote.Text.{Utf8}
 use denote.Shadow.{shadow}
 use Rattle.evaluation.specs.Kinds.{reversals, odd}
-use Rattle.evaluation.proofs.kinds.KindName.parse.Given as goal
+use Rattle.evaluation.proofs.naming.KindNameFromStr.from_str.Given as goal
 
 -- so many reversals were taken off
 abbrev pub invariant-loop-rest : goal.invariant-loop-rest
