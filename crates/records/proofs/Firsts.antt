@@ -1,9 +1,10 @@
 -- The first refusal among verdicts, found one after the other. Assumes nothing.
-use Rattle.std.proofs.Common.{◌≡◌, ℕ, zero, suc, ◌+◌, ◌-◌, ◌<◌, ◌⊎◌, sym, refl, ap, ◌∙◌, inl, inr, suc-add, zero-add, add-one, arith, below_more}
+use Rattle.std.proofs.Common.{◌≡◌, ℕ, zero, suc, ◌+◌, ◌-◌, ◌<◌, ◌⊎◌, List, sym, refl, ap, ◌∙◌, inl, inr, suc-add, zero-add, add-one, arith, below_more}
 use Rattle.refusal.specs.Reports.{accepted, refused, Verdict}
 use Rattle.refusal.specs.declared.Part.{Part}
 use Rattle.graph.specs.Verdicts.{then}
-use Rattle.records.specs.Verdicts.{first_refusal}
+use Rattle.records.specs.Formats.{Format, record_at}
+use Rattle.records.specs.Verdicts.{first_refusal, value_verdict, vertex_verdict}
 
 module _ (verdict : ℕ → Verdict) where
   -- one record more
@@ -47,3 +48,7 @@ module _ (verdict : ℕ → Verdict) where
           | inr refuses ↦ first_refused n refuses.0 refuses.1 refuses.2 (omega arith) each refuses.3
         ]
       ]
+
+-- the verdict on the bytes of vertex record i
+pub vertex_is : {K : Type 0} (f : Format K) (bytes : List ℕ) (i place : ℕ) (record_bytes : List ℕ) → place ≡ i → record_bytes ≡ record_at f.width bytes i → value_verdict place (f.parsed record_bytes) ≡ vertex_verdict f bytes i
+vertex_is f bytes i place record_bytes at is = ap (λ p. value_verdict p (f.parsed record_bytes)) at ∙ ap (λ b. value_verdict i (f.parsed b)) is

@@ -1,35 +1,33 @@
 //! Whether records are the weights of a graph.
 
-ghost use Rattle.std.specs.Prelude.{◌≡◌, ◌+◌, ◌*◌, ◌^◌, ◌<◌, ◌≤◌, length};
+ghost use Rattle.std.specs.Prelude.{◌≡◌, ℕ, ◌+◌, ◌*◌, ◌^◌, ◌<◌, ◌≤◌, length};
 ghost use Rattle.refusal.specs.Reports.{answer};
 ghost use Rattle.graph.specs.Graphs.{AllWithin, Within};
 ghost use Rattle.graph.specs.Shapes.{shape_of};
 ghost use Rattle.records.specs.Formats.{format, bytes_in};
-ghost use Rattle.records.specs.Verdicts.{bounded, bytes_fit, edge_bytes_fit, first_refusal, vertex_verdict, edge_verdict, table_verdict, records_verdict};
+ghost use Rattle.records.specs.Verdicts.{bounded, bytes_fit, edge_bytes_fit, first_refusal, value_verdict, vertex_verdict, edge_verdict, table_verdict, records_verdict};
 
 use crate::decoding::decode_at;
 use graph::{Edge, Graph};
 use lattice::{Kind, Stored};
 use refusal::Refusal;
 
-/// Judges vertex record i.
-fn judge_vertex<K: Stored>(records: &[u8], i: usize) -> Result<(), Refusal>
-    requires { i * K.Stored.size + K.Stored.size ≤ length records.now }
-    ensures { answer result ≡ vertex_verdict (format K.Stored.size K.Stored.parsed) records.now i }
+/// Judges the record of vertex i.
+fn judge_vertex<K: Stored>(record: &[u8], i: usize) -> Result<(), Refusal>
+    ensures { answer result ≡ value_verdict i (K.Stored.parsed record.now) }
 {
-    match decode_at::<K>(records, i) {
+    match K::decode(record) {
         Some(_) => Ok(()),
         None => Err(Refusal::NotAValue(i)),
     }
 }
 
 /// Judges each vertex record, first to last.
-fn judge_vertices<K: Stored>(records: &[u8], n: usize) -> Result<(), Refusal>
-    requires { length records.now ≡ n * K.Stored.size }
-    ensures { answer result ≡ first_refusal (vertex_verdict (format K.Stored.size K.Stored.parsed) records.now) n }
+fn judge_vertices<K: Stored>(records: &[u8]) -> Result<(), Refusal>
+    ensures { (n : ℕ) → length records.now ≡ n * K.Stored.size → answer result ≡ first_refusal (vertex_verdict (format K.Stored.size K.Stored.parsed) records.now) n }
 {
-    for i in 0..n {
-        judge_vertex::<K>(records, i)?;
+    for (i, record) in records.chunks_exact(K::record_size()).enumerate() {
+        judge_vertex::<K>(record, i)?;
     }
     Ok(())
 }
@@ -38,10 +36,7 @@ fn judge_vertices<K: Stored>(records: &[u8], n: usize) -> Result<(), Refusal>
 fn is_bounded<K: Kind>(weight: K, bound: Option<K>) -> bool
     ensures { result ≡ bounded K.Kind.leq weight bound }
 {
-    match bound {
-        Some(bound) => weight.is_below(bound),
-        None => true,
-    }
+    bound.is_none_or(|bound| weight.is_below(bound))
 }
 
 /// Judges the record of edge j, in a graph with n vertices.
@@ -102,10 +97,7 @@ fn is_absent_or_whole<K: Stored>(count: usize, records: Option<&[u8]>) -> bool
     requires { count ≤ 4000000 }
     ensures { result ≡ edge_bytes_fit count K.Stored.size (bytes_in records.entry) }
 {
-    match records {
-        Some(records) => is_whole::<K>(count, records),
-        None => true,
-    }
+    records.is_none_or(|records| is_whole::<K>(count, records))
 }
 
 /// Judges the records of a graph's weights: the lengths of both byte buffers, then each vertex record, then each edge record.
@@ -121,7 +113,7 @@ pub(crate) fn judge<K: Stored>(
     if !is_whole::<K>(n, vertex_records) || !is_absent_or_whole::<K>(table.len(), edge_records) {
         return Err(Refusal::ByteBufferLength);
     }
-    judge_vertices::<K>(vertex_records, n)?;
+    judge_vertices::<K>(vertex_records)?;
     match edge_records {
         Some(edge_records) => judge_edges::<K>(n, table, vertex_records, edge_records),
         None => Ok(()),
