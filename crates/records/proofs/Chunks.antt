@@ -2,13 +2,16 @@
 use Rattle.std.proofs.Common.{◌≡◌, ℕ, zero, suc, ◌+◌, ◌*◌, ◌<◌, List, [], ◌∷◌, ◌++◌, length, get_or, take, drop, Some, None, Option, Bor, sym, refl, ap, ◌∙◌, suc-mul, zero-mul, zero-add, arith, length-append, length-drop}
 use Rattle.std.proofs.lemmas.List.FromFn.{length-enumerate_from, get_or-enumerate_from}
 use Rattle.std.proofs.lemmas.List.{take_at, drop_at, drop-drop}
-use Rattle.std.proofs.lemmas.Iterator.{YieldsList}
-use Rattle.std.proofs.lemmas.Iterator.Consumers.{YieldsList-at, YieldsList-from_enumerate, YieldsList-turn, YieldsList-end}
-use Rattle.std.specs.Iterator.{AlwaysYields, Yields}
-use Rattle.std.specs.Iterator.Adapters.{enumerate_source, enumerate_count, enumerate_steps}
-use Rattle.std.specs.List.{enumerate_from}
+use Rattle.std.proofs.lemmas.Iterator.{YieldsList, YieldsList-from_slice, YieldsList-from_zip, zips}
+use Rattle.std.proofs.lemmas.Iterator.Consumers.{YieldsList-at, YieldsList-from_enumerate}
+use Rattle.std.proofs.iter.Yields.{fronts}
+use Rattle.std.proofs.lemmas.Slice.Zip.{length-zip, get_or-zip}
+use Rattle.std.specs.Iterator.{AlwaysYields}
+use Rattle.std.specs.Iterator.Adapters.{enumerate_source, enumerate_count, enumerate_steps, zip_first, zip_second}
+use Rattle.std.specs.List.{enumerate_from, zip}
 use Rattle.std.specs.Simd.{first_chunks}
-use Rattle.std.specs.Slice.Iter.{chunks_exact_rest, chunks_exact_size, chunks_exact_steps}
+use Rattle.std.specs.Slice.Iter.{iter_rest, chunks_exact_rest, chunks_exact_size, chunks_exact_steps}
+use Rattle.graph.specs.declared.edges.Edge.{Edge}
 use Rattle.records.specs.Formats.{record_at}
 
 length_chunks : (w n : ℕ) (bytes : List ℕ) → length (first_chunks w n bytes) ≡ n
@@ -62,4 +65,35 @@ module _ (w n : ℕ) (bytes : List ℕ) (some : 0 < w) (long : length bytes ≡ 
         below,
         ap (λ (p : ℕ × List ℕ). p.0) same ∙ zero-add k,
         ap (λ (p : ℕ × List ℕ). p.1) same ∙ chunk_at w n k bytes record_bytes below,
+      )
+
+-- the edges of a table with their records
+module _ (w : ℕ) (table : List Edge) (bytes : List ℕ) (some : 0 < w) (long : length bytes ≡ length table * w) where
+  abbrev pub pairs : List (Edge × List ℕ)
+  pairs = zip table (first_chunks w (length table) bytes)
+
+  abbrev pub numbered_pairs : List (ℕ × (Edge × List ℕ))
+  numbered_pairs = enumerate_from 0 pairs
+
+  pub pairs_come : {s : _} → iter_rest (zip_first (enumerate_source s)) ≡ table → chunks_exact_size (zip_second (enumerate_source s)) ≡ w → chunks_exact_rest (zip_second (enumerate_source s)) ≡ bytes → enumerate_count s ≡ 0
+      → YieldsList {B = ℕ × (Edge × List ℕ)} (enumerate_steps (zips fronts (chunks_exact_steps {A = ℕ}))) (λ p. (p.0, (p.1.0.now, p.1.1.now))) s numbered_pairs
+  pairs_come first wide is count = YieldsList-from_enumerate (YieldsList-from_zip (YieldsList-from_slice table first) (records_come w (length table) bytes some long wide is)) count
+
+  length_pairs : length pairs ≡ length table
+  length_pairs = length-zip table (first_chunks w (length table) bytes) ∙ omega (arith, length_chunks w (length table) bytes)
+
+  pub length_numbered : length numbered_pairs ≡ length table
+  length_numbered = length-enumerate_from 0 pairs ∙ length_pairs
+
+  -- the item after k of them is edge k with its place and its record
+  pub pair_is : (k place : ℕ) (e : Edge) (record_bytes : List ℕ) → k < length numbered_pairs → (place, (e, record_bytes)) ≡ get_or numbered_pairs k (place, (e, record_bytes))
+      → (k < length table) × (place ≡ k) × (e ≡ get_or table k e) × (record_bytes ≡ record_at w bytes k)
+  pair_is k place e record_bytes within at =
+      let below : k < length table = omega (arith, length_numbered) in
+      let same = at ∙ get_or-enumerate_from 0 pairs k (place, (e, record_bytes)) (omega (arith, length_pairs)) in
+      let pair = ap (λ (p : ℕ × (Edge × List ℕ)). p.1) same ∙ get_or-zip table (first_chunks w (length table) bytes) k (e, record_bytes) below (omega (arith, length_chunks w (length table) bytes)) in (
+        below,
+        ap (λ (p : ℕ × (Edge × List ℕ)). p.0) same ∙ zero-add k,
+        ap (λ (p : Edge × List ℕ). p.0) pair,
+        ap (λ (p : Edge × List ℕ). p.1) pair ∙ chunk_at w (length table) k bytes record_bytes below,
       )

@@ -4,8 +4,8 @@ ghost use Rattle.std.specs.Prelude.{◌≡◌, ℕ, ◌+◌, ◌*◌, ◌^◌, �
 ghost use Rattle.refusal.specs.Reports.{answer};
 ghost use Rattle.graph.specs.Graphs.{AllWithin, Within};
 ghost use Rattle.graph.specs.Shapes.{shape_of};
-ghost use Rattle.records.specs.Formats.{format, bytes_in};
-ghost use Rattle.records.specs.Verdicts.{bounded, bytes_fit, edge_bytes_fit, first_refusal, value_verdict, vertex_verdict, edge_verdict, table_verdict, records_verdict};
+ghost use Rattle.records.specs.Formats.{format, value_at, bytes_in};
+ghost use Rattle.records.specs.Verdicts.{bounded, bytes_fit, edge_bytes_fit, first_refusal, value_verdict, vertex_verdict, ends_verdict, table_verdict, records_verdict};
 
 use crate::decoding::decode_at;
 use graph::{Edge, Graph};
@@ -45,15 +45,14 @@ fn judge_edge<K: Stored>(
     edge: Edge,
     j: usize,
     vertex_records: &[u8],
-    edge_records: &[u8],
+    record: &[u8],
 ) -> Result<(), Refusal>
     requires within { Within n edge }
     requires few { n + j < 2 ^ 64 }
     requires vertices { length vertex_records.now ≡ n * K.Stored.size }
-    requires edges { j * K.Stored.size + K.Stored.size ≤ length edge_records.now }
-    ensures { answer result ≡ edge_verdict K.Kind.leq (format K.Stored.size K.Stored.parsed) n vertex_records.now edge_records.now j edge }
+    ensures { answer result ≡ ends_verdict K.Kind.leq n j (value_at (format K.Stored.size K.Stored.parsed) vertex_records.now edge.first) (value_at (format K.Stored.size K.Stored.parsed) vertex_records.now edge.second) (K.Stored.parsed record.now) }
 {
-    let Some(weight) = decode_at::<K>(edge_records, j) else {
+    let Some(weight) = K::decode(record) else {
         return Err(Refusal::NotAValue(n + j));
     };
     let first = decode_at(vertex_records, edge.first as usize);
@@ -78,8 +77,9 @@ fn judge_edges<K: Stored>(
     requires edges { length edge_records.now ≡ length table.now * K.Stored.size }
     ensures { answer result ≡ table_verdict K.Kind.leq (format K.Stored.size K.Stored.parsed) n table.now vertex_records.now edge_records.now }
 {
-    for (j, edge) in table.iter().enumerate() {
-        judge_edge::<K>(n, *edge, j, vertex_records, edge_records)?;
+    let records = edge_records.chunks_exact(K::record_size());
+    for (j, (edge, record)) in table.iter().zip(records).enumerate() {
+        judge_edge::<K>(n, *edge, j, vertex_records, record)?;
     }
     Ok(())
 }
