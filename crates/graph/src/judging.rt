@@ -46,6 +46,7 @@ fn copy_records<R: Record>(records: &[R], table: &mut [Edge])
     requires { length table.old ≡ length records.now }
     ensures { table.new ≡ map R.edge_of records.now }
 {
+    // Each record is read by its place, since no proof is found of what a loop over a zip with `iter_mut` leaves in the table.
     for (k, row) in table.iter_mut().enumerate() {
         *row = records[k].edge();
     }

@@ -27,6 +27,7 @@ pub(crate) fn decode_all<K: Stored>(records: &[u8], weights: &mut [K])
     requires { length records.now ≡ length weights.old * K.Stored.size }
     ensures { weights.new ≡ values (format K.Stored.size K.Stored.parsed) K.Kind.operations.lowest (length weights.old) records.now }
 {
+    // Each weight is written by its place, since no proof is found of what a loop over a zip with `iter_mut` leaves in the weights.
     for (i, record) in records.chunks_exact(K::record_size()).enumerate() {
         weights[i] = decode_or_lowest(record);
     }
