@@ -1,8 +1,7 @@
 use Rattle.std.proofs.Common.{◌<◌, length, ap, ◌∙◌, arith, rules}
 use Rattle.std.proofs.lemmas.List.{length_push}
-use Rattle.std.proofs.lemmas.Iterator.Consumers.{YieldsList-turn, YieldsList-end}
 use Rattle.records.specs.Formats.{format, value_or}
-use Rattle.records.proofs.Chunks.{numbered, item_is, length_all}
+use Rattle.records.proofs.Chunks.{record_is, all_records}
 use Rattle.records.proofs.Extents.{value_written, values_all}
 use Rattle.records.proofs.decoding.decode_all.Goals as goal
 
@@ -12,9 +11,7 @@ offset_bounds-weights-i g c =
     let n = length c.args.weights.now in
     let bytes = c.args.records.now in
     let some : 0 < w = omega (arith, g.met.K.Stored.narrow) in
-    let road = numbered w n bytes some c.requires {s = c.into_iter-i-iterator.result} c.chunks_exact.result (search rules) (c.chunks_exact.ensures.size ∙ c.record_size.ensures) c.chunks_exact.ensures.rest (search rules) in
-    let turn = YieldsList-turn road c.loop-i.yielded _ c.loop-i.yielded_by _ c.next.new.self (c.in-Some.i, c.in-Some.record) c.in-Some.is c.next.ensures.steps in
-    let item = item_is w n bytes some c.requires (length c.loop-i.yielded) c.in-Some.i c.in-Some.record.now turn.0 turn.1 in
+    let item = record_is w n bytes some c.requires c.into_iter-i-iterator.result c.loop-i.i-iterator c.next.new.self c.loop-i.yielded c.next.result (search rules) (search rules) (search rules) c.loop-i.yielded_by c.next.ensures.steps c.in-Some.i c.in-Some.record c.in-Some.is in
     let below : c.in-Some.i < n = omega (arith, item.0, item.1) in
     search rules
 
@@ -26,9 +23,7 @@ loop-i-preserved g c =
     let n = length c.args.weights.now in
     let bytes = c.args.records.now in
     let some : 0 < w = omega (arith, g.met.K.Stored.narrow) in
-    let road = numbered w n bytes some c.requires {s = c.into_iter-i-iterator.result} c.chunks_exact.result (search rules) (c.chunks_exact.ensures.size ∙ c.record_size.ensures) c.chunks_exact.ensures.rest (search rules) in
-    let turn = YieldsList-turn road c.loop-i.yielded _ c.loop-i.yielded_by _ c.next.new.self (c.in-Some.i, c.in-Some.record) c.in-Some.is c.next.ensures.steps in
-    let item = item_is w n bytes some c.requires (length c.loop-i.yielded) c.in-Some.i c.in-Some.record.now turn.0 turn.1 in
+    let item = record_is w n bytes some c.requires c.into_iter-i-iterator.result c.loop-i.i-iterator c.next.new.self c.loop-i.yielded c.next.result (search rules) (search rules) (search rules) c.loop-i.yielded_by c.next.ensures.steps c.in-Some.i c.in-Some.record c.in-Some.is in
     value_written f d bytes c.loop-i.weights (length c.loop-i.yielded) c.in-Some.i _ c.decode_or_lowest.result item.1 (length_push c.loop-i.yielded (c.in-Some.i, c.in-Some.record)) (omega (arith, item.0, c.loop-i.auto.weights))
     (c.decode_or_lowest.ensures ∙ ap (λ b. value_or d (g.K.Stored.parsed b)) item.2) c.loop-i.invariant
 
@@ -38,7 +33,5 @@ returns g c =
     let n = length c.args.weights.now in
     let bytes = c.args.records.now in
     let some : 0 < w = omega (arith, g.met.K.Stored.narrow) in
-    let road = numbered w n bytes some c.requires {s = c.into_iter-i-iterator.result} c.chunks_exact.result (search rules) (c.chunks_exact.ensures.size ∙ c.record_size.ensures) c.chunks_exact.ensures.rest (search rules) in
-    let end = YieldsList-end road c.loop-i.yielded _ c.loop-i.yielded_by _ c.next.new.self c.in-None.is c.next.ensures.steps in
-    let all_read = end.1 ∙ length_all w n bytes some c.requires in
+    let all_come = all_records w n bytes some c.requires c.into_iter-i-iterator.result c.loop-i.i-iterator c.next.new.self c.loop-i.yielded c.next.result (search rules) (search rules) (search rules) c.loop-i.yielded_by c.next.ensures.steps c.in-None.is in
     values_all (format w g.K.Stored.parsed) g.K.Kind.operations.lowest bytes c.loop-i.weights (length c.loop-i.yielded) n c.loop-i.auto.weights (omega arith) (omega arith) c.loop-i.invariant

@@ -1,11 +1,10 @@
 use Rattle.std.proofs.Common.{ℕ, ◌<◌, length, sym, ap, ◌∙◌, arith, rules}
 use Rattle.std.proofs.lemmas.List.{length_push}
-use Rattle.std.proofs.lemmas.Iterator.Consumers.{YieldsList-turn, YieldsList-end}
 use Rattle.std.proofs.lemmas.Result.{err_from_is_err_and}
 use Rattle.refusal.specs.Reports.{Verdict}
 use Rattle.records.specs.Formats.{format}
 use Rattle.records.specs.Verdicts.{first_refusal, edge_verdict, edge_at}
-use Rattle.records.proofs.Chunks.{pairs_come, pair_is, length_numbered}
+use Rattle.records.proofs.Chunks.{edge_record_is, all_edge_records}
 use Rattle.records.proofs.Firsts.{verdict_more, refused_at, edge_is}
 use Rattle.records.proofs.judging.judge_edges.Goals as goal
 
@@ -16,10 +15,8 @@ loop-j-preserved g c =
     let table = c.args.table.now in
     let bytes = c.args.edge_records.now in
     let some : 0 < w = omega (arith, g.met.K.Stored.narrow) in
-    let road = pairs_come w table bytes some c.requires.edges {s = c.into_iter-j-iterator.result} (search rules) (search rules) (search rules) (search rules) in
-    let turn = YieldsList-turn road c.loop-j.yielded _ c.loop-j.yielded_by _ c.next.new.self (c.in-Some.j, (c.in-Some.edge, c.in-Some.record)) c.in-Some.is c.next.ensures.steps in
     let k = length c.loop-j.yielded in
-    let item = pair_is w table bytes some c.requires.edges k c.in-Some.j c.in-Some.edge.now c.in-Some.record.now turn.0 turn.1 in
+    let item = edge_record_is w table bytes some c.requires.edges c.into_iter-j-iterator.result c.loop-j.j-iterator c.next.new.self c.loop-j.yielded c.next.result (search rules) (search rules) (search rules) (search rules) c.loop-j.yielded_by c.next.ensures.steps c.in-Some.j c.in-Some.edge c.in-Some.record c.in-Some.is in
     let verdict : ℕ → Verdict = λ j. edge_verdict g.K.Kind.leq f c.args.n c.args.vertex_records.now bytes j (edge_at table j) in
     ap (first_refusal verdict) (length_push c.loop-j.yielded (c.in-Some.j, (c.in-Some.edge, c.in-Some.record)))
     ∙ verdict_more verdict k c.loop-j.invariant
@@ -33,10 +30,8 @@ returns-in_err-judge_edge g c =
     let table = c.args.table.now in
     let bytes = c.args.edge_records.now in
     let some : 0 < w = omega (arith, g.met.K.Stored.narrow) in
-    let road = pairs_come w table bytes some c.requires.edges {s = c.into_iter-j-iterator.result} (search rules) (search rules) (search rules) (search rules) in
-    let turn = YieldsList-turn road c.loop-j.yielded _ c.loop-j.yielded_by _ c.next.new.self (c.in-Some.j, (c.in-Some.edge, c.in-Some.record)) c.in-Some.is c.next.ensures.steps in
     let k = length c.loop-j.yielded in
-    let item = pair_is w table bytes some c.requires.edges k c.in-Some.j c.in-Some.edge.now c.in-Some.record.now turn.0 turn.1 in
+    let item = edge_record_is w table bytes some c.requires.edges c.into_iter-j-iterator.result c.loop-j.j-iterator c.next.new.self c.loop-j.yielded c.next.result (search rules) (search rules) (search rules) (search rules) c.loop-j.yielded_by c.next.ensures.steps c.in-Some.j c.in-Some.edge c.in-Some.record c.in-Some.is in
     let verdict : ℕ → Verdict = λ j. edge_verdict g.K.Kind.leq f c.args.n c.args.vertex_records.now bytes j (edge_at table j) in
     let p = err_from_is_err_and c.from_residual.result c.from_residual.ensures.1 in
     rw (p.1, p.2)
@@ -50,7 +45,6 @@ returns g c =
     let table = c.args.table.now in
     let bytes = c.args.edge_records.now in
     let some : 0 < w = omega (arith, g.met.K.Stored.narrow) in
-    let road = pairs_come w table bytes some c.requires.edges {s = c.into_iter-j-iterator.result} (search rules) (search rules) (search rules) (search rules) in
-    let end = YieldsList-end road c.loop-j.yielded _ c.loop-j.yielded_by _ c.next.new.self c.in-None.is c.next.ensures.steps in
+    let all_come = all_edge_records w table bytes some c.requires.edges c.into_iter-j-iterator.result c.loop-j.j-iterator c.next.new.self c.loop-j.yielded c.next.result (search rules) (search rules) (search rules) (search rules) c.loop-j.yielded_by c.next.ensures.steps c.in-None.is in
     let verdict : ℕ → Verdict = λ j. edge_verdict g.K.Kind.leq f c.args.n c.args.vertex_records.now bytes j (edge_at table j) in
-    sym c.loop-j.invariant ∙ ap (first_refusal verdict) (end.1 ∙ length_numbered w table bytes some c.requires.edges)
+    sym c.loop-j.invariant ∙ ap (first_refusal verdict) all_come
