@@ -1,5 +1,5 @@
 -- Records read one after the other, as chunks of their bytes. Assumes nothing.
-use Rattle.std.proofs.Common.{◌≡◌, ℕ, zero, suc, ◌+◌, ◌*◌, ◌<◌, List, [], ◌∷◌, ◌++◌, length, get_or, take, drop, Some, None, Option, Bor, sym, refl, ap, ◌∙◌, suc-mul, zero-mul, zero-add, arith, length-append, length-drop}
+use Rattle.std.proofs.Common.{◌≡◌, ℕ, zero, suc, ◌*◌, ◌<◌, List, ◌++◌, length, get_or, take, drop, Some, None, Option, Bor, sym, refl, ap, ◌∙◌, suc-mul, zero-mul, zero-add, arith, length-append, length-drop}
 use Rattle.std.proofs.lemmas.List.FromFn.{length-enumerate_from, get_or-enumerate_from}
 use Rattle.std.proofs.lemmas.List.{take_at, drop_at, drop-drop}
 use Rattle.std.proofs.lemmas.Iterator.{YieldsList, YieldsList-from_slice, YieldsList-from_zip, zips}
@@ -47,8 +47,8 @@ records_come w n bytes some long wide is = record { runs = chunks_come w n bytes
 
 -- a loop over n records, each with its place: xs have come, and r is what the next call gives
 module _ (w n : ℕ) (bytes : List ℕ) (some : 0 < w) (long : length bytes ≡ n * w) (s t u : _) (xs : List (ℕ × Bor (List ℕ))) (r : Option (ℕ × Bor (List ℕ)))
-  (wide : chunks_exact_size (enumerate_source s) ≡ w) (is : chunks_exact_rest (enumerate_source s) ≡ bytes) (count : enumerate_count s ≡ 0)
-  (come : Yields (enumerate_steps (chunks_exact_steps {A = ℕ})) s xs t) (next : enumerate_steps (chunks_exact_steps {A = ℕ}) t r u) where
+    (wide : chunks_exact_size (enumerate_source s) ≡ w) (is : chunks_exact_rest (enumerate_source s) ≡ bytes) (count : enumerate_count s ≡ 0)
+    (come : Yields (enumerate_steps (chunks_exact_steps {A = ℕ})) s xs t) (next : enumerate_steps (chunks_exact_steps {A = ℕ}) t r u) where
   abbrev chunks : List (List ℕ)
   chunks = first_chunks w n bytes
 
@@ -76,8 +76,8 @@ module _ (w n : ℕ) (bytes : List ℕ) (some : 0 < w) (long : length bytes ≡ 
 
 -- a loop over the edges of a table with their records, each with its place
 module _ (w : ℕ) (table : List Edge) (bytes : List ℕ) (some : 0 < w) (long : length bytes ≡ length table * w) (s t u : _) (xs : List (ℕ × (Bor Edge × Bor (List ℕ)))) (r : Option (ℕ × (Bor Edge × Bor (List ℕ))))
-  (first : iter_rest (zip_first (enumerate_source s)) ≡ table) (wide : chunks_exact_size (zip_second (enumerate_source s)) ≡ w) (is : chunks_exact_rest (zip_second (enumerate_source s)) ≡ bytes) (count : enumerate_count s ≡ 0)
-  (come : Yields (enumerate_steps (zips fronts (chunks_exact_steps {A = ℕ}))) s xs t) (next : enumerate_steps (zips fronts (chunks_exact_steps {A = ℕ})) t r u) where
+    (first : iter_rest (zip_first (enumerate_source s)) ≡ table) (wide : chunks_exact_size (zip_second (enumerate_source s)) ≡ w) (is : chunks_exact_rest (zip_second (enumerate_source s)) ≡ bytes) (count : enumerate_count s ≡ 0)
+    (come : Yields (enumerate_steps (zips fronts (chunks_exact_steps {A = ℕ}))) s xs t) (next : enumerate_steps (zips fronts (chunks_exact_steps {A = ℕ})) t r u) where
   abbrev edge_chunks : List (List ℕ)
   edge_chunks = first_chunks w (length table) bytes
 

@@ -5,7 +5,7 @@ ghost use Rattle.records.specs.Formats.{format, value_at, value_or, values};
 
 use lattice::{Kind, Stored};
 
-/// The value that record i stands for.
+/// The value that record i stands for. An edge reads the records of its ends so, which may stand anywhere.
 pub(crate) fn decode_at<K: Stored>(records: &[u8], i: usize) -> Option<K>
     requires { i * K.Stored.size + K.Stored.size ≤ length records.now }
     ensures { result ≡ value_at (format K.Stored.size K.Stored.parsed) records.now i }

@@ -39,6 +39,9 @@ fn is_bounded<K: Kind>(weight: K, bound: Option<K>) -> bool
     bound.is_none_or(|bound| weight.is_below(bound))
 }
 
+// The lengths of records are clauses and no type of their own, since each is tied to the length of another argument: a type would keep
+// a count beside its bytes, and each clause would say that this count is the other length.
+
 /// Judges the record of edge j, in a graph with n vertices.
 fn judge_edge<K: Stored>(
     n: usize,
