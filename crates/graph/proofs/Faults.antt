@@ -1,6 +1,7 @@
 -- Judging record by record stops at the first record that breaks a rule, by the first rule that it breaks. Assumes nothing.
 use Rattle.std.proofs.Common.{◌≡◌, ℕ, zero, suc, ◌<◌, ◌≤◌, Bool, true, false, ◌⊎◌, List, length, get_or, drop, Some, None, Option, sym, refl, ap, ◌∙◌, inl, inr, add-one, arith, below_more}
 use Rattle.std.proofs.lemmas.List.{get_or_default, drop_all}
+use Rattle.std.proofs.lemmas.Bool.{cases_Bool}
 use Rattle.std.proofs.lemmas.Bool.Decides.{leb_tells}
 use Rattle.refusal.specs.Reports.{accepted, refused, Verdict}
 use Rattle.refusal.specs.declared.Part.TheVariants as part
@@ -16,10 +17,6 @@ blank = record { first = 0; second = 0 }
 abbrev previous : List Edge → ℕ → Option Edge
 previous es zero = None
 previous es (suc i) = Some (get_or es i blank)
-
-either : (b : Bool) → (b ≡ true) ⊎ (b ≡ false)
-either true = inl refl
-either false = inr refl
 
 keeps_above : (n : ℕ) (es : List Edge) (k : ℕ) → k < length es → above (previous es k) (get_or es k blank) ≡ true → Keeps n es k above_last
 keeps_above n es zero l h i d e = absurd (omega arith)
@@ -71,7 +68,7 @@ outcome n es k l =
             | inl u ↦ breaking end_in_range (one_before n es k rise) (λ keeps. let h = keeps blank in omega (arith, u.1)) (rw (t.0, u.0))
             | inr u ↦
                 let range : Keeps n es k end_in_range = λ d. rw (get_or_default es k d blank l) u.1 in
-                elim (either (above (previous es k) e)) [
+                elim (cases_Bool (above (previous es k) e)) [
                   | inl v ↦ keeping (every n es k rise range (keeps_above n es k l v)) (rw (t.0, u.0, v))
                   | inr v ↦ breaking above_last (two_before n es k rise range) (breaks_above n es k v) (rw (t.0, u.0, v))
                 ]

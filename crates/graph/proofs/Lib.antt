@@ -3,3 +3,4 @@ pub mod Faults
 pub mod Loops
 pub mod Answering
 pub mod RoundTrip
+pub mod Chunks

@@ -1,8 +1,8 @@
 ghost use Rattle.std.specs.Prelude.{◌≡◌};
 ghost use Rattle.graph.specs.Graphs.{before};
 
-/// One row of an edge table: an edge by its two ends.
-#[derive(Clone, Copy, PartialEq, Eq, Debug)]
+/// One row of an edge table: an edge by its two ends. Edges are ordered by first end, then by second.
+#[derive(Clone, Copy, PartialEq, Eq, PartialOrd, Ord, Debug)]
 #[repr(C)]
 pub struct Edge {
     pub first: u32,
@@ -14,6 +14,6 @@ impl Edge {
     pub fn is_before(self, other: Edge) -> bool
         ensures { result ≡ before self other }
     {
-        self.first < other.first || (self.first == other.first && self.second < other.second)
+        self < other
     }
 }

@@ -1,4 +1,4 @@
-ghost use Rattle.std.specs.Prelude.{◌≡◌, true, List, length, is_ok, if◌then◌else◌, None, MatchResult, OnOk};
+ghost use Rattle.std.specs.Prelude.{◌≡◌, true, List, length, map, is_ok, if◌then◌else◌, None, MatchResult, OnOk};
 ghost use Rattle.graph.specs.Files.{file_bytes, file_records};
 ghost use Rattle.graph.specs.Graphs.{Sound};
 ghost use Rattle.graph.specs.Rules.{FileJudged, Judged};
@@ -9,7 +9,7 @@ ghost use Rattle.refusal.specs.Reports.{answer};
 
 use crate::edges::Edge;
 use crate::graphs::Graph;
-use crate::records::{FileBytes, Records, TableRows};
+use crate::records::{Record, records_in};
 use refusal::Refusal;
 
 /// Judges record k, which comes after the record `last`, if there is one.
@@ -29,12 +29,12 @@ fn check_record(n: usize, k: usize, last: Option<Edge>, e: Edge) -> Result<(), R
 }
 
 /// Judges every record, first to last.
-fn check_records<R: Records>(n: usize, records: &R) -> Result<(), Refusal>
-    ensures { answer result ≡ records_verdict n 0 None (R.rows records.now) }
+fn check_records<R: Record>(n: usize, records: &[R]) -> Result<(), Refusal>
+    ensures { answer result ≡ records_verdict n 0 None (map R.edge_of records.now) }
 {
     let mut last = None;
-    for k in 0..records.count() {
-        let e = records.at(k);
+    for (k, record) in records.iter().enumerate() {
+        let e = record.edge();
         check_record(n, k, last, e)?;
         last = Some(e);
     }
@@ -42,12 +42,13 @@ fn check_records<R: Records>(n: usize, records: &R) -> Result<(), Refusal>
 }
 
 /// Writes every record to an edge table.
-fn copy_records<R: Records>(records: &R, table: &mut [Edge])
-    requires { length table.old ≡ length (R.rows records.now) }
-    ensures { table.new ≡ R.rows records.now }
+fn copy_records<R: Record>(records: &[R], table: &mut [Edge])
+    requires { length table.old ≡ length records.now }
+    ensures { table.new ≡ map R.edge_of records.now }
 {
-    for k in 0..records.count() {
-        table[k] = records.at(k);
+    // Each record is read by its place, since no proof is found of what a loop over a zip with `iter_mut` leaves in the table.
+    for (k, row) in table.iter_mut().enumerate() {
+        *row = records[k].edge();
     }
 }
 
@@ -65,7 +66,7 @@ fn check_table(n: usize, edges: &[Edge]) -> Result<(), Refusal>
     if too_large(n, edges.len()) {
         return Err(Refusal::GraphTooLarge);
     }
-    check_records(n, &TableRows(edges))
+    check_records(n, edges)
 }
 
 /// Judges the bytes of a graph file with n vertices, whose edges are to go to a table of m rows.
@@ -75,14 +76,14 @@ fn check_bytes(n: usize, bytes: &[u8], m: usize) -> Result<(), Refusal>
     if bytes.len() % 8 != 0 {
         return Err(Refusal::PartialEdgeRecord);
     }
-    let file = FileBytes(bytes);
-    if too_large(n, file.count()) {
+    let records = records_in(bytes);
+    if too_large(n, records.len()) {
         return Err(Refusal::GraphTooLarge);
     }
-    if m != file.count() {
+    if m != records.len() {
         return Err(Refusal::EdgeTableLength);
     }
-    check_records(n, &file)
+    check_records(n, records)
 }
 
 /// Judges an edge table: the answer is the right one, and an accepted table is that of a graph.
@@ -132,6 +133,6 @@ pub fn check_file(n: usize, bytes: &[u8], table: &mut [Edge]) -> Result<(), Refu
     ensures read_back { (es : List Edge) → bytes.now ≡ file_bytes es → is_ok result ≡ true → table.new ≡ es }
 {
     accept_bytes(n, bytes, table.len())?;
-    copy_records(&FileBytes(bytes), table);
+    copy_records(records_in(bytes), table);
     Ok(())
 }

@@ -5,19 +5,18 @@
 use graph::{Edge, Graph, check_file, judge};
 use refusal::{Part, Refusal};
 
-/// The number, the place and the part that a call answers; a 0 and no part where it is accepted.
-fn outcome(answer: Result<(), Refusal>) -> (u8, usize, Option<Part>) {
-    match answer {
-        Ok(()) => (0, 0, None),
-        Err(refusal) => (refusal.number(), refusal.place(), Some(refusal.part())),
-    }
+/// What a call answers: a refusal by its number, its place and its part.
+type Outcome = Result<(), (u8, usize, Part)>;
+
+fn outcome(answer: Result<(), Refusal>) -> Outcome {
+    answer.map_err(|refusal| (refusal.number(), refusal.place(), refusal.part()))
 }
 
-const ACCEPTED: (u8, usize, Option<Part>) = (0, 0, None);
+const ACCEPTED: Outcome = Ok(());
 
 /// A refusal by its number and place: the part is always the graph.
-fn refused(number: u8, place: usize) -> (u8, usize, Option<Part>) {
-    (number, place, Some(Part::Graph))
+fn refused(number: u8, place: usize) -> Outcome {
+    Err((number, place, Part::Graph))
 }
 
 fn edge(first: u32, second: u32) -> Edge {
@@ -25,7 +24,7 @@ fn edge(first: u32, second: u32) -> Edge {
 }
 
 /// What judging these rows answers.
-fn judged(n: usize, rows: &[Edge]) -> (u8, usize, Option<Part>) {
+fn judged(n: usize, rows: &[Edge]) -> Outcome {
     let mut place = Graph::empty();
     outcome(judge(&mut place, n, rows))
 }
@@ -52,7 +51,7 @@ mod tables {
         rows: &'a [Edge],
         other_n: usize,
         others: &'a [Edge],
-    ) -> ((u8, usize, Option<Part>), bool) {
+    ) -> (Outcome, bool) {
         let mut place = Graph::empty();
         let first = judge(&mut place, n, rows);
         let second = outcome(judge(&mut place, other_n, others));

@@ -18,6 +18,11 @@ module _ {K : Type 0} (f : Format K) (d : K) (bytes : List ℕ) where
       ∙ ap (λ y. values f d i bytes ++ y ∷ []) is
       ∙ sym (map-range_with_len_more (λ j. value_or d (value_at f bytes j)) 0 i i (zero-add i))
 
+  -- the same, where the index and the next one are said otherwise
+  pub value_written : (weights : List K) (i place next : ℕ) (x : K) → place ≡ i → next ≡ i + 1 → i < length weights → x ≡ value_or d (value_at f bytes i) → take i weights ≡ values f d i bytes
+      → take next (set weights place x) ≡ values f d next bytes
+  value_written weights i place next x at more below is before = rw (at, more) (values_more weights i x below is before)
+
   -- no record is left
   pub values_all : (weights : List K) (i n : ℕ) → length weights ≡ n → n ≤ i → i ≤ n → take i weights ≡ values f d i bytes → weights ≡ values f d n bytes
   values_all weights i n long past within before =

@@ -1,9 +1,12 @@
 -- The first refusal among verdicts, found one after the other. Assumes nothing.
-use Rattle.std.proofs.Common.{◌≡◌, ℕ, zero, suc, ◌+◌, ◌-◌, ◌<◌, ◌⊎◌, sym, refl, ap, ◌∙◌, inl, inr, suc-add, zero-add, add-one, arith, below_more}
+use Rattle.std.proofs.Common.{◌≡◌, ℕ, zero, suc, ◌+◌, ◌-◌, ◌<◌, Bool, ◌⊎◌, List, length, get_or, sym, refl, ap, ◌∙◌, inl, inr, suc-add, zero-add, add-one, arith, below_more}
 use Rattle.refusal.specs.Reports.{accepted, refused, Verdict}
 use Rattle.refusal.specs.declared.Part.{Part}
 use Rattle.graph.specs.Verdicts.{then}
-use Rattle.records.specs.Verdicts.{first_refusal}
+use Rattle.graph.specs.declared.edges.Edge.{Edge}
+use Rattle.std.proofs.lemmas.List.{get_or_default}
+use Rattle.records.specs.Formats.{Format, record_at, value_at}
+use Rattle.records.specs.Verdicts.{first_refusal, value_verdict, vertex_verdict, ends_verdict, edge_verdict, edge_at}
 
 module _ (verdict : ℕ → Verdict) where
   -- one record more
@@ -47,3 +50,16 @@ module _ (verdict : ℕ → Verdict) where
           | inr refuses ↦ first_refused n refuses.0 refuses.1 refuses.2 (omega arith) each refuses.3
         ]
       ]
+
+-- the verdict on the bytes of vertex record i
+pub vertex_is : {K : Type 0} (f : Format K) (bytes : List ℕ) (i place : ℕ) (record_bytes : List ℕ) → place ≡ i → record_bytes ≡ record_at f.width bytes i → value_verdict place (f.parsed record_bytes) ≡ vertex_verdict f bytes i
+vertex_is f bytes i place record_bytes at is = ap (λ p. value_verdict p (f.parsed record_bytes)) at ∙ ap (λ b. value_verdict i (f.parsed b)) is
+
+-- the verdict on the bytes of edge record k
+pub edge_is : {K : Type 0} (leq : K → K → Bool) (f : Format K) (n : ℕ) (table : List Edge) (vertices bytes : List ℕ) (k place : ℕ) (e : Edge) (record_bytes : List ℕ) → k < length table → place ≡ k → e ≡ get_or table k e → record_bytes ≡ record_at f.width bytes k
+    → ends_verdict leq n place (value_at f vertices e.first) (value_at f vertices e.second) (f.parsed record_bytes) ≡ edge_verdict leq f n vertices bytes k (edge_at table k)
+edge_is {K = K} leq f n table vertices bytes k place e record_bytes below at edge is =
+    let verdict : ℕ → Edge → List ℕ → Verdict = λ p d b. ends_verdict leq n p (value_at f vertices d.first) (value_at f vertices d.second) (f.parsed b) in
+    ap (λ p. verdict p e record_bytes) at
+    ∙ ap (λ d. verdict k d record_bytes) (edge ∙ get_or_default table k e _ below)
+    ∙ ap (λ b. verdict k (edge_at table k) b) is

@@ -4,3 +4,4 @@ pub mod Faults
 pub mod Places
 pub mod Returns
 pub mod Bounds
+pub mod Chunks

@@ -5,7 +5,7 @@ ghost use Rattle.records.specs.Formats.{format, value_at, value_or, values};
 
 use lattice::{Kind, Stored};
 
-/// The value that record i stands for.
+/// The value that record i stands for. An edge reads the records of its ends so, which may stand anywhere.
 pub(crate) fn decode_at<K: Stored>(records: &[u8], i: usize) -> Option<K>
     requires { i * K.Stored.size + K.Stored.size ≤ length records.now }
     ensures { result ≡ value_at (format K.Stored.size K.Stored.parsed) records.now i }
@@ -15,15 +15,11 @@ pub(crate) fn decode_at<K: Stored>(records: &[u8], i: usize) -> Option<K>
     K::decode(&records[start..start + width])
 }
 
-/// The value that record i stands for, or the lowest where it stands for none.
-fn decode_or_lowest<K: Stored>(records: &[u8], i: usize) -> K
-    requires { i * K.Stored.size + K.Stored.size ≤ length records.now }
-    ensures { result ≡ value_or K.Kind.operations.lowest (value_at (format K.Stored.size K.Stored.parsed) records.now i) }
+/// The value that a record stands for, or the lowest where it stands for none.
+fn decode_or_lowest<K: Stored>(record: &[u8]) -> K
+    ensures { result ≡ value_or K.Kind.operations.lowest (K.Stored.parsed record.now) }
 {
-    match decode_at(records, i) {
-        Some(value) => value,
-        None => K::lowest(),
-    }
+    K::decode(record).unwrap_or(K::lowest())
 }
 
 /// Writes the value of each record to its weight.
@@ -31,7 +27,8 @@ pub(crate) fn decode_all<K: Stored>(records: &[u8], weights: &mut [K])
     requires { length records.now ≡ length weights.old * K.Stored.size }
     ensures { weights.new ≡ values (format K.Stored.size K.Stored.parsed) K.Kind.operations.lowest (length weights.old) records.now }
 {
-    for i in 0..weights.len() {
-        weights[i] = decode_or_lowest(records, i);
+    // Each weight is written by its place, since no proof is found of what a loop over a zip with `iter_mut` leaves in the weights.
+    for (i, record) in records.chunks_exact(K::record_size()).enumerate() {
+        weights[i] = decode_or_lowest(record);
     }
 }

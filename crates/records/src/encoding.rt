@@ -21,6 +21,7 @@ pub(crate) fn encode_all<K: Stored>(weights: &[K], records: &mut [u8])
     requires { length records.old ≡ length weights.now * K.Stored.size }
     ensures { records.new ≡ flat_map K.Stored.written weights.now }
 {
+    // Each record is written by its place, since no proof is found of what a loop over `chunks_exact_mut` leaves in the bytes.
     for (i, weight) in weights.iter().enumerate() {
         encode_at(*weight, records, i);
     }

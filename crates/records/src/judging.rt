@@ -1,35 +1,33 @@
 //! Whether records are the weights of a graph.
 
-ghost use Rattle.std.specs.Prelude.{◌≡◌, ◌+◌, ◌*◌, ◌^◌, ◌<◌, ◌≤◌, length};
+ghost use Rattle.std.specs.Prelude.{◌≡◌, ℕ, ◌+◌, ◌*◌, ◌^◌, ◌<◌, ◌≤◌, length};
 ghost use Rattle.refusal.specs.Reports.{answer};
 ghost use Rattle.graph.specs.Graphs.{AllWithin, Within};
 ghost use Rattle.graph.specs.Shapes.{shape_of};
-ghost use Rattle.records.specs.Formats.{format, bytes_in};
-ghost use Rattle.records.specs.Verdicts.{bounded, bytes_fit, edge_bytes_fit, first_refusal, vertex_verdict, edge_verdict, table_verdict, records_verdict};
+ghost use Rattle.records.specs.Formats.{format, value_at, bytes_in};
+ghost use Rattle.records.specs.Verdicts.{bounded, bytes_fit, edge_bytes_fit, first_refusal, value_verdict, vertex_verdict, ends_verdict, table_verdict, records_verdict};
 
 use crate::decoding::decode_at;
 use graph::{Edge, Graph};
 use lattice::{Kind, Stored};
 use refusal::Refusal;
 
-/// Judges vertex record i.
-fn judge_vertex<K: Stored>(records: &[u8], i: usize) -> Result<(), Refusal>
-    requires { i * K.Stored.size + K.Stored.size ≤ length records.now }
-    ensures { answer result ≡ vertex_verdict (format K.Stored.size K.Stored.parsed) records.now i }
+/// Judges the record of vertex i.
+fn judge_vertex<K: Stored>(record: &[u8], i: usize) -> Result<(), Refusal>
+    ensures { answer result ≡ value_verdict i (K.Stored.parsed record.now) }
 {
-    match decode_at::<K>(records, i) {
+    match K::decode(record) {
         Some(_) => Ok(()),
         None => Err(Refusal::NotAValue(i)),
     }
 }
 
 /// Judges each vertex record, first to last.
-fn judge_vertices<K: Stored>(records: &[u8], n: usize) -> Result<(), Refusal>
-    requires { length records.now ≡ n * K.Stored.size }
-    ensures { answer result ≡ first_refusal (vertex_verdict (format K.Stored.size K.Stored.parsed) records.now) n }
+fn judge_vertices<K: Stored>(records: &[u8]) -> Result<(), Refusal>
+    ensures { (n : ℕ) → length records.now ≡ n * K.Stored.size → answer result ≡ first_refusal (vertex_verdict (format K.Stored.size K.Stored.parsed) records.now) n }
 {
-    for i in 0..n {
-        judge_vertex::<K>(records, i)?;
+    for (i, record) in records.chunks_exact(K::record_size()).enumerate() {
+        judge_vertex::<K>(record, i)?;
     }
     Ok(())
 }
@@ -38,11 +36,11 @@ fn judge_vertices<K: Stored>(records: &[u8], n: usize) -> Result<(), Refusal>
 fn is_bounded<K: Kind>(weight: K, bound: Option<K>) -> bool
     ensures { result ≡ bounded K.Kind.leq weight bound }
 {
-    match bound {
-        Some(bound) => weight.is_below(bound),
-        None => true,
-    }
+    bound.is_none_or(|bound| weight.is_below(bound))
 }
+
+// The lengths of records are clauses and no type of their own, since each is tied to the length of another argument: a type would keep
+// a count beside its bytes, and each clause would say that this count is the other length.
 
 /// Judges the record of edge j, in a graph with n vertices.
 fn judge_edge<K: Stored>(
@@ -50,15 +48,14 @@ fn judge_edge<K: Stored>(
     edge: Edge,
     j: usize,
     vertex_records: &[u8],
-    edge_records: &[u8],
+    record: &[u8],
 ) -> Result<(), Refusal>
     requires within { Within n edge }
     requires few { n + j < 2 ^ 64 }
     requires vertices { length vertex_records.now ≡ n * K.Stored.size }
-    requires edges { j * K.Stored.size + K.Stored.size ≤ length edge_records.now }
-    ensures { answer result ≡ edge_verdict K.Kind.leq (format K.Stored.size K.Stored.parsed) n vertex_records.now edge_records.now j edge }
+    ensures { answer result ≡ ends_verdict K.Kind.leq n j (value_at (format K.Stored.size K.Stored.parsed) vertex_records.now edge.first) (value_at (format K.Stored.size K.Stored.parsed) vertex_records.now edge.second) (K.Stored.parsed record.now) }
 {
-    let Some(weight) = decode_at::<K>(edge_records, j) else {
+    let Some(weight) = K::decode(record) else {
         return Err(Refusal::NotAValue(n + j));
     };
     let first = decode_at(vertex_records, edge.first as usize);
@@ -83,8 +80,9 @@ fn judge_edges<K: Stored>(
     requires edges { length edge_records.now ≡ length table.now * K.Stored.size }
     ensures { answer result ≡ table_verdict K.Kind.leq (format K.Stored.size K.Stored.parsed) n table.now vertex_records.now edge_records.now }
 {
-    for (j, edge) in table.iter().enumerate() {
-        judge_edge::<K>(n, *edge, j, vertex_records, edge_records)?;
+    let records = edge_records.chunks_exact(K::record_size());
+    for (j, (edge, record)) in table.iter().zip(records).enumerate() {
+        judge_edge::<K>(n, *edge, j, vertex_records, record)?;
     }
     Ok(())
 }
@@ -102,10 +100,7 @@ fn is_absent_or_whole<K: Stored>(count: usize, records: Option<&[u8]>) -> bool
     requires { count ≤ 4000000 }
     ensures { result ≡ edge_bytes_fit count K.Stored.size (bytes_in records.entry) }
 {
-    match records {
-        Some(records) => is_whole::<K>(count, records),
-        None => true,
-    }
+    records.is_none_or(|records| is_whole::<K>(count, records))
 }
 
 /// Judges the records of a graph's weights: the lengths of both byte buffers, then each vertex record, then each edge record.
@@ -121,7 +116,7 @@ pub(crate) fn judge<K: Stored>(
     if !is_whole::<K>(n, vertex_records) || !is_absent_or_whole::<K>(table.len(), edge_records) {
         return Err(Refusal::ByteBufferLength);
     }
-    judge_vertices::<K>(vertex_records, n)?;
+    judge_vertices::<K>(vertex_records)?;
     match edge_records {
         Some(edge_records) => judge_edges::<K>(n, table, vertex_records, edge_records),
         None => Ok(()),

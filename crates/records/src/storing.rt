@@ -3,7 +3,7 @@
 ghost use Rattle.std.specs.Prelude.{◌≡◌};
 ghost use Rattle.refusal.specs.Reports.{accepted, answer};
 ghost use Rattle.graph.specs.Shapes.{shape_of};
-ghost use Rattle.filters.specs.Weightings.{weighting, weights_in};
+ghost use Rattle.filters.specs.Weightings.{weights_in};
 ghost use Rattle.records.specs.Formats.{format};
 ghost use Rattle.records.specs.Calls.{bytes_of_both, stored, store_call};
 ghost use Rattle.records.specs.Rules.{StandFor, LoadsBack};
@@ -18,13 +18,13 @@ use refusal::Refusal;
 /// Judges the lengths of the buffers, and writes the records of the weights.
 fn store_from<K: Stored>(
     graph: &Graph,
-    vertices: &[K],
-    edges: &[K],
+    weights: Weights<'_, '_, K>,
     vertex_records: &mut [u8],
     edge_records: &mut [u8],
 ) -> Result<(), Refusal>
-    ensures { stored (answer result) (bytes_of_both vertex_records.new edge_records.new) ≡ store_call K.Stored.size K.Stored.written (shape_of graph.now) (weighting vertices.now edges.now) (bytes_of_both vertex_records.old edge_records.old) }
+    ensures { stored (answer result) (bytes_of_both vertex_records.new edge_records.new) ≡ store_call K.Stored.size K.Stored.written (shape_of graph.now) (weights_in weights.entry) (bytes_of_both vertex_records.old edge_records.old) }
 {
+    let Weights { vertices, edges } = weights;
     if !fits(graph, vertices, edges) {
         return Err(Refusal::WeightBufferLength);
     }
@@ -54,6 +54,5 @@ pub fn store<K: Stored>(
     ensures edges { answer result ≡ accepted tt → StandFor (format K.Stored.size K.Stored.parsed) edge_records.new (weights_in weights.entry).edges }
     ensures loads { answer result ≡ accepted tt → LoadsBack K.Kind.below K.Kind.operations K.Kind.leq (format K.Stored.size K.Stored.parsed) (shape_of graph.now) (bytes_of_both vertex_records.new edge_records.new) (weights_in weights.entry) }
 {
-    let Weights { vertices, edges } = weights;
-    store_from(graph, vertices, edges, vertex_records, edge_records)
+    store_from(graph, weights, vertex_records, edge_records)
 }

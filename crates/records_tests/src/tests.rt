@@ -4,28 +4,22 @@ use lattice::*;
 use records::{load, store};
 use refusal::{Part, Refusal};
 
-/// The number, the place and the part that a call answers; a 0 and no part where it is accepted.
-fn outcome(answer: Result<(), Refusal>) -> (u8, usize, Option<Part>) {
-    match answer {
-        Ok(()) => (0, 0, None),
-        Err(refusal) => (refusal.number(), refusal.place(), Some(refusal.part())),
-    }
+/// What a call answers: a refusal by its number, its place and its part.
+type Outcome = Result<(), (u8, usize, Part)>;
+
+fn outcome(answer: Result<(), Refusal>) -> Outcome {
+    answer.map_err(|refusal| (refusal.number(), refusal.place(), refusal.part()))
 }
 
-const ACCEPTED: (u8, usize, Option<Part>) = (0, 0, None);
+const ACCEPTED: Outcome = Ok(());
 
 /// A refusal by its number and place: the part is always the sheet.
-fn refused(number: u8, place: usize) -> (u8, usize, Option<Part>) {
-    (number, place, Some(Part::Sheet))
+fn refused(number: u8, place: usize) -> Outcome {
+    Err((number, place, Part::Sheet))
 }
 
 fn edge(first: u32, second: u32) -> Edge {
     Edge { first, second }
-}
-
-/// Edge records that are absent. (A literal `None` in the call is not covered by the borrow checker yet.)
-fn absent() -> Option<&'static [u8]> {
-    None
 }
 
 /// What loading these records answers.
@@ -35,7 +29,7 @@ fn loaded<K: Stored>(
     edge_records: Option<&[u8]>,
     vertices: &mut [K],
     edges: &mut [K],
-) -> (u8, usize, Option<Part>) {
+) -> Outcome {
     outcome(load(
         graph,
         vertex_records,
@@ -51,7 +45,7 @@ fn stored<K: Stored>(
     edges: &[K],
     vertex_records: &mut [u8],
     edge_records: &mut [u8],
-) -> (u8, usize, Option<Part>) {
+) -> Outcome {
     outcome(store(
         graph,
         Weights { vertices, edges },
@@ -103,7 +97,7 @@ fn absent_edges_are_met(rt: HostRuntime) {
     let mut edges = [level(9); 2];
     let vertex_records = [4, 0, 7, 0, 6, 0];
     assert_eq!(rt;
-        loaded(&graph, &vertex_records, absent(), &mut vertices, &mut edges),
+        loaded(&graph, &vertex_records, None, &mut vertices, &mut edges),
         ACCEPTED
     );
     assert!(rt; vertices == [level(4), level(7), level(6)]);
@@ -133,12 +127,12 @@ fn two_levels_in_five_bytes(rt: HostRuntime) {
     let mut vertices = [level(9); 2];
     let none: &mut [Level] = &mut [];
     assert_eq!(rt;
-        loaded(&graph, &[1, 0, 2, 0, 3], absent(), &mut vertices, none),
+        loaded(&graph, &[1, 0, 2, 0, 3], None, &mut vertices, none),
         refused(8, 0)
     );
     assert!(rt; vertices == [level(9), level(9)]);
     assert_eq!(rt;
-        loaded(&graph, &[1, 0, 2], absent(), &mut vertices, none),
+        loaded(&graph, &[1, 0, 2], None, &mut vertices, none),
         refused(8, 0)
     );
     assert!(rt; vertices == [level(9), level(9)]);
@@ -151,7 +145,7 @@ fn two_vertices_in_three_places(rt: HostRuntime) {
     let mut vertices = [level(9); 3];
     let none: &mut [Level] = &mut [];
     assert_eq!(rt;
-        loaded(&graph, &[1, 0, 2, 0], absent(), &mut vertices, none),
+        loaded(&graph, &[1, 0, 2, 0], None, &mut vertices, none),
         refused(7, 0)
     );
     assert!(rt; vertices == [level(9), level(9), level(9)]);
@@ -159,7 +153,7 @@ fn two_vertices_in_three_places(rt: HostRuntime) {
     let mut two = [level(9); 2];
     let mut one = [level(9); 1];
     assert_eq!(rt;
-        loaded(&graph, &[1, 0, 2, 0], absent(), &mut two, &mut one),
+        loaded(&graph, &[1, 0, 2, 0], None, &mut two, &mut one),
         refused(7, 0)
     );
 }
@@ -172,11 +166,11 @@ fn weight_buffers_come_first(rt: HostRuntime) {
     let mut vertices = [Presence::Absent; 3];
     let none: &mut [Presence] = &mut [];
     assert_eq!(rt;
-        loaded(&graph, &[0, 1, 1, 1, 1], absent(), &mut vertices, none),
+        loaded(&graph, &[0, 1, 1, 1, 1], None, &mut vertices, none),
         refused(7, 0)
     );
     assert_eq!(rt;
-        loaded(&graph, &[2, 2], absent(), &mut vertices, none),
+        loaded(&graph, &[2, 2], None, &mut vertices, none),
         refused(7, 0)
     );
 }
@@ -330,7 +324,7 @@ fn reversed_levels(rt: HostRuntime) {
     );
     assert!(rt; edges == [reversed(7)]);
     assert_eq!(rt;
-        loaded(&graph, &[4, 0, 6, 0], absent(), &mut vertices, &mut edges),
+        loaded(&graph, &[4, 0, 6, 0], None, &mut vertices, &mut edges),
         ACCEPTED
     );
     assert!(rt; vertices == [reversed(4), reversed(6)]);
@@ -368,7 +362,7 @@ fn class_sets(rt: HostRuntime) {
     );
     assert!(rt; edges == [Classes::from_bits(2)]);
     assert_eq!(rt;
-        loaded(&graph, &vertex_records, absent(), &mut vertices, &mut edges),
+        loaded(&graph, &vertex_records, None, &mut vertices, &mut edges),
         ACCEPTED
     );
     assert!(rt;
@@ -386,10 +380,10 @@ fn the_empty_graph(rt: HostRuntime) {
     let graph = Graph::empty();
     let vertices: &mut [Level] = &mut [];
     let edges: &mut [Level] = &mut [];
-    assert_eq!(rt; loaded(&graph, &[], absent(), vertices, edges), ACCEPTED);
+    assert_eq!(rt; loaded(&graph, &[], None, vertices, edges), ACCEPTED);
     assert_eq!(rt; loaded(&graph, &[], Some(&[]), vertices, edges), ACCEPTED);
     assert_eq!(rt;
-        loaded(&graph, &[0, 0], absent(), vertices, edges),
+        loaded(&graph, &[0, 0], None, vertices, edges),
         refused(8, 0)
     );
     assert_eq!(rt;

@@ -1,4 +1,4 @@
-use Rattle.std.proofs.Common.{◌≡◌}
+use Rattle.std.proofs.Common.{◌≡◌, ℕ, ◌*◌, length}
 use Rattle.refusal.specs.Reports.{accepted}
 use Rattle.records.specs.Formats.{format}
 use Rattle.records.specs.Verdicts.{first_refusal, vertex_verdict}
@@ -6,4 +6,5 @@ use Rattle.records.proofs.judging.judge_vertices.Given as goal
 
 -- no record so far is refused
 abbrev pub invariant-loop-i : goal.invariant-loop-i
-invariant-loop-i g l = first_refusal (vertex_verdict (format g.K.Stored.size g.K.Stored.parsed) l.records) l.i ≡ accepted tt
+invariant-loop-i g l =
+    (n : ℕ) → length l.records ≡ n * g.K.Stored.size → first_refusal (vertex_verdict (format g.K.Stored.size g.K.Stored.parsed) l.records) (length l.yielded) ≡ accepted tt
