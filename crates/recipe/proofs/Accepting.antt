@@ -36,7 +36,7 @@ letter_inside Closing = refl
 letter_inside Alternate = refl
 
 -- a word has bytes, and no space among them
-abbrev WordBytes : List ℕ → Type 0
+abbrev pub WordBytes : List ℕ → Type 0
 WordBytes bs = Inside bs × (0 < length bs)
 
 spells_bytes : (w : Word) (bs : List ℕ) → Spells w bs → WordBytes bs
@@ -61,7 +61,7 @@ runs_gap (b ∷ gap) t at h =
     ∙ runs_gap gap t (at + 1) h.1
     ∙ ap (λ n. runs n t) (omega arith)
 
-runs_word : (bs t : List ℕ) (at : ℕ) → WordBytes bs → opens t ≡ false → runs at (bs ++ t) ≡ record { place = at; bytes = bs } ∷ runs (at + length bs) t
+pub runs_word : (bs t : List ℕ) (at : ℕ) → WordBytes bs → opens t ≡ false → runs at (bs ++ t) ≡ record { place = at; bytes = bs } ∷ runs (at + length bs) t
 runs_word [] t at h e = absurd (omega arith)
 runs_word (b ∷ bs) t at h e = run_word at b bs t h.0 e
 

@@ -1,5 +1,5 @@
 -- A wrong word is refused where it departs.
-use Rattle.std.proofs.Common.{◌≡◌, ℕ, suc, ◌+◌, ◌<◌, ◌≤◌, true, cond, ◌||◌, eqb, ltb, leb, List, [], ◌∷◌, ◌++◌, length, take, sym, refl, ap, ◌∙◌, subst, inl, inr, ⊎_elim, append-nil, add-zero, arith}
+use Rattle.std.proofs.Common.{◌≡◌, ℕ, suc, ◌+◌, ◌<◌, ◌≤◌, true, ◌||◌, eqb, ltb, leb, List, [], ◌∷◌, ◌++◌, length, take, sym, refl, ap, ◌∙◌, subst, inl, inr, ⊎_elim, append-nil, add-zero, arith}
 use Rattle.std.proofs.lemmas.Bool.{cond_both, cases_eq, eqb-true, eqb-false, leb-true, le-leb, ltb-true, and_parts, and_from, or_cases, both_ways}
 use Rattle.refusal.specs.Reports.{Answer, accepted, refused}
 use Rattle.refusal.specs.declared.Part.{Part}
@@ -10,7 +10,7 @@ use Rattle.recipe.specs.Departs.{Alone, Departs}
 use Rattle.recipe.specs.Grammar.{Digits, Number, letter}
 use Rattle.recipe.specs.Shapes.{is_digit, digit_run, number_run, Parsed, step, hold, join, meet, forget, step_shape, alone_shape, first_shape, shape_of}
 use Rattle.recipe.proofs.Answering.{not_refused}
-use Rattle.recipe.proofs.Shaping.{front_within}
+use Rattle.recipe.proofs.Shaping.{front_within, pick}
 use Rattle.recipe.proofs.Spelling.{number_run_whole, number_some}
 
 digit_parts : (d : ℕ) → is_digit d ≡ true → (48 ≤ d) × (d ≤ 57)
@@ -129,20 +129,17 @@ module _ (at b : ℕ) (bs : List ℕ) (n place : ℕ) (p : Part) where
     },
   )
 
-  pick : (k : ℕ) (x y : Answer Parsed) → (b ≡ k → Good x) → ((b ≡ k → ⊥) → Good y) → Good (cond (eqb b k) x y)
-  pick k x y here other = cond_both (eqb b k) x y Good (λ t. here (eqb-true b k t)) (λ t. other (eqb-false b k t))
-
   first_departs : Good (first_shape at b bs)
   first_departs =
-      pick 68 _ _ (step_departs Dilation) (λ no_d.
-      pick 69 _ _ (step_departs Erosion) (λ no_e.
-      pick 79 _ _ (step_departs Opening) (λ no_o.
-      pick 67 _ _ (step_departs Closing) (λ no_c.
-      pick 65 _ _ (step_departs Alternate) (λ no_a.
-      pick 72 _ _ (λ i. alone_departs (hold (b ∷ bs) at) bs refl (inl i)) (λ no_h.
-      pick 74 _ _ (λ i. alone_departs (join (b ∷ bs) at) bs refl (inr (inl i))) (λ no_j.
-      pick 77 _ _ (λ i. alone_departs (meet (b ∷ bs) at) bs refl (inr (inr (inl i)))) (λ no_m.
-      pick 70 _ _ (λ i. alone_departs (forget (b ∷ bs) at) bs refl (inr (inr (inr i)))) (λ no_f.
+      pick b 68 _ _ Good (step_departs Dilation) (λ no_d.
+      pick b 69 _ _ Good (step_departs Erosion) (λ no_e.
+      pick b 79 _ _ Good (step_departs Opening) (λ no_o.
+      pick b 67 _ _ Good (step_departs Closing) (λ no_c.
+      pick b 65 _ _ Good (step_departs Alternate) (λ no_a.
+      pick b 72 _ _ Good (λ i. alone_departs (hold (b ∷ bs) at) bs refl (inl i)) (λ no_h.
+      pick b 74 _ _ Good (λ i. alone_departs (join (b ∷ bs) at) bs refl (inr (inl i))) (λ no_j.
+      pick b 77 _ _ Good (λ i. alone_departs (meet (b ∷ bs) at) bs refl (inr (inr (inl i)))) (λ no_m.
+      pick b 70 _ _ Good (λ i. alone_departs (forget (b ∷ bs) at) bs refl (inr (inr (inr i)))) (λ no_f.
       none_departs (by_letter no_d no_e no_o no_c no_a) (λ a. ⊎_elim no_h (λ a. ⊎_elim no_j (λ a. ⊎_elim no_m no_f a) a) a))))))))))
 
 pub shape_departs : (at : ℕ) (bytes : List ℕ) (n place : ℕ) (p : Part) → shape_of at bytes ≡ refused n place p → At at bytes n place p

@@ -8,14 +8,13 @@ use Rattle.refusal.specs.declared.Part.TheVariants as part
 use Rattle.recipe.specs.declared.turns.Turn.TheVariants.{Free, Held}
 use Rattle.recipe.specs.declared.words.Word.TheVariants.{Hold, Join, Meet, Forget}
 use Rattle.recipe.specs.Departs.{Shaped, Departs}
-use Rattle.recipe.specs.Grammar.{Ends}
 use Rattle.recipe.specs.Judging.{in_word, opens, Run, before, runs, Progress, start, admitted_word, turned_to, read_run, read_runs, judge}
 use Rattle.recipe.specs.Refused.{NoSpace, Separated, SizeOutside, Fault, wrong_shape, wrong_size, too_many, out_of_turn, FirstFault, Refused, too_long, at_word, still_held}
 use Rattle.recipe.specs.Shapes.{numeral, number_run, Parsed, step, hold, join, meet, forget, shape_of, sized_shape, word_of}
 use Rattle.recipe.proofs.Departing.{shape_departs}
 use Rattle.recipe.proofs.Meaning.{means_read}
-use Rattle.recipe.proofs.Running.{Inside, run_word, run_next, refused_stays, judged}
-use Rattle.recipe.proofs.Accepting.{ends_opens, spells_means}
+use Rattle.recipe.proofs.Running.{Inside, run_next, refused_stays, judged}
+use Rattle.recipe.proofs.Accepting.{ends_opens, runs_word, spells_means}
 use Rattle.recipe.proofs.Spelling.{word_spells, spells_word, shape_step, letter_shape, number_run_whole, number_some}
 
 -- the runs before a word and from it on
@@ -57,10 +56,6 @@ read_append q (x ∷ xs) ys = read_append (read_run q x) xs ys
 no_space_inside : (bs : List ℕ) → NoSpace bs → Inside bs
 no_space_inside [] h = tt
 no_space_inside (b ∷ bs) h = (not_from_false _ (ne_eqb b 32 h.0), no_space_inside bs h.1)
-
-runs_bytes : (bytes rest : List ℕ) (at : ℕ) → 0 < length bytes → NoSpace bytes → Ends rest → runs at (bytes ++ rest) ≡ record { place = at; bytes = bytes } ∷ runs (at + length bytes) rest
-runs_bytes [] rest at some solid ends = absurd (omega arith)
-runs_bytes (b ∷ bs) rest at some solid ends = run_word at b bs rest (no_space_inside (b ∷ bs) solid) (ends_opens rest ends)
 
 -- a word departs at one place only
 once_below : (bytes : List ℕ) (j k : ℕ) → Departs bytes j → Departs bytes k → j < k → ⊥
@@ -123,7 +118,7 @@ first_read text n place q h =
     ∙ ap (read_runs (accepted start)) (runs_separated h.front (h.bytes ++ h.rest) 0 h.separated)
     ∙ read_append (accepted start) (runs 0 h.front) (runs at (h.bytes ++ h.rest))
     ∙ ap (λ q. read_runs q (runs at (h.bytes ++ h.rest))) (means_read (runs 0 h.front) h.words start h.then (spells_means h.words h.front 0 h.spells) h.leads (omega (arith, h.few)))
-    ∙ ap (read_runs (accepted p)) (runs_bytes h.bytes h.rest at h.nonempty h.no_space h.ends)
+    ∙ ap (read_runs (accepted p)) (runs_word h.bytes h.rest at (no_space_inside h.bytes h.no_space, h.nonempty) (ends_opens h.rest h.ends))
     ∙ ap (λ q. read_runs q far) (fault_read p at h.bytes n place q h.fault)
     ∙ refused_stays n place q far
 

@@ -1,6 +1,6 @@
 -- A word is read exactly where it is spelt.
-use Rattle.std.proofs.Common.{◌≡◌, ℕ, suc, ◌<◌, ◌≤◌, cond, ◌||◌, eqb, ltb, leb, List, [], ◌∷◌, length, sym, refl, ap, ◌∙◌, subst, arith}
-use Rattle.std.proofs.lemmas.Bool.{cond_both, cond-true, cond-false, eqb-true, eqb-false, leb-true, ltb-false, and_parts, and_from, or_parts, or_from, le-leb, le-ltb, ne_eqb}
+use Rattle.std.proofs.Common.{◌≡◌, ℕ, suc, ◌<◌, ◌≤◌, ◌||◌, eqb, ltb, leb, List, [], ◌∷◌, length, sym, refl, ap, ◌∙◌, subst, arith}
+use Rattle.std.proofs.lemmas.Bool.{cond_both, cond-true, cond-false, eqb-false, leb-true, ltb-false, and_parts, and_from, or_parts, or_from, le-leb, le-ltb, ne_eqb}
 use Rattle.refusal.specs.Reports.{Answer, accepted, refused}
 use Rattle.refusal.specs.declared.Part.TheVariants as part
 use Rattle.filters.specs.declared.families.Family.{Family}
@@ -10,6 +10,7 @@ use Rattle.recipe.specs.declared.words.Word.TheVariants.{Step, Hold, Join, Meet,
 use Rattle.recipe.specs.Grammar.{Digits, Number, letter, Spells}
 use Rattle.recipe.specs.Shapes.{is_digit, digit_run, number_run, numeral, Parsed, step, hold, join, meet, forget, step_shape, alone_shape, first_shape, shape_of, sized, sized_shape, word_of, step_of}
 use Rattle.recipe.proofs.Answering.{not_accepted, same_value}
+use Rattle.recipe.proofs.Shaping.{pick}
 
 digits_from : (ds : List ℕ) → length ds ≤ digit_run ds → Digits ds
 digits_from [] h = tt
@@ -66,9 +67,6 @@ alone_only : (at : ℕ) (s : Parsed) (bs : List ℕ) (v w : Word) → sized s �
 alone_only at s [] v w e h = (refl, same_value (sym e ∙ h))
 alone_only at s (b ∷ bs) v w e h = not_accepted h
 
-pick : (b k : ℕ) (x y : Answer Parsed) (P : Answer Parsed → Type 0) → (b ≡ k → P x) → P y → P (cond (eqb b k) x y)
-pick b k x y P here other = cond_both (eqb b k) x y P (λ e. here (eqb-true b k e)) (λ e. other)
-
 module _ (at b : ℕ) (bs : List ℕ) (w : Word) where
   abbrev Good : Answer Parsed → Type 0
   Good r = sized_shape r ≡ accepted w → Spells w (b ∷ bs)
@@ -76,15 +74,15 @@ module _ (at b : ℕ) (bs : List ℕ) (w : Word) where
   first_spells : Good (first_shape at b bs)
   first_spells =
       pick b 68 _ _ Good (step_spells at Dilation bs w b)
-      (pick b 69 _ _ Good (step_spells at Erosion bs w b)
-      (pick b 79 _ _ Good (step_spells at Opening bs w b)
-      (pick b 67 _ _ Good (step_spells at Closing bs w b)
-      (pick b 65 _ _ Good (step_spells at Alternate bs w b)
-      (pick b 72 _ _ Good (λ e h. let o = alone_only at (hold (b ∷ bs) at) bs Hold w refl h in subst (λ v. Spells v (b ∷ bs)) o.1 (λ i. e i ∷ o.0 i))
-      (pick b 74 _ _ Good (λ e h. let o = alone_only at (join (b ∷ bs) at) bs Join w refl h in subst (λ v. Spells v (b ∷ bs)) o.1 (λ i. e i ∷ o.0 i))
-      (pick b 77 _ _ Good (λ e h. let o = alone_only at (meet (b ∷ bs) at) bs Meet w refl h in subst (λ v. Spells v (b ∷ bs)) o.1 (λ i. e i ∷ o.0 i))
-      (pick b 70 _ _ Good (λ e h. let o = alone_only at (forget (b ∷ bs) at) bs Forget w refl h in subst (λ v. Spells v (b ∷ bs)) o.1 (λ i. e i ∷ o.0 i))
-      (λ h. not_accepted h)))))))))
+      (λ no. pick b 69 _ _ Good (step_spells at Erosion bs w b)
+      (λ no. pick b 79 _ _ Good (step_spells at Opening bs w b)
+      (λ no. pick b 67 _ _ Good (step_spells at Closing bs w b)
+      (λ no. pick b 65 _ _ Good (step_spells at Alternate bs w b)
+      (λ no. pick b 72 _ _ Good (λ e h. let o = alone_only at (hold (b ∷ bs) at) bs Hold w refl h in subst (λ v. Spells v (b ∷ bs)) o.1 (λ i. e i ∷ o.0 i))
+      (λ no. pick b 74 _ _ Good (λ e h. let o = alone_only at (join (b ∷ bs) at) bs Join w refl h in subst (λ v. Spells v (b ∷ bs)) o.1 (λ i. e i ∷ o.0 i))
+      (λ no. pick b 77 _ _ Good (λ e h. let o = alone_only at (meet (b ∷ bs) at) bs Meet w refl h in subst (λ v. Spells v (b ∷ bs)) o.1 (λ i. e i ∷ o.0 i))
+      (λ no. pick b 70 _ _ Good (λ e h. let o = alone_only at (forget (b ∷ bs) at) bs Forget w refl h in subst (λ v. Spells v (b ∷ bs)) o.1 (λ i. e i ∷ o.0 i))
+      (λ no h. not_accepted h)))))))))
 
 pub word_spells : (at : ℕ) (bs : List ℕ) (w : Word) → word_of at bs ≡ accepted w → Spells w bs
 word_spells at [] w h = not_accepted h
@@ -135,15 +133,15 @@ module _ (at b : ℕ) (bs : List ℕ) (f : Family) (ds : List ℕ) (at' : ℕ) w
   first_step : IsStep (first_shape at b bs)
   first_step =
       pick b 68 _ _ IsStep (of_step Dilation)
-      (pick b 69 _ _ IsStep (of_step Erosion)
-      (pick b 79 _ _ IsStep (of_step Opening)
-      (pick b 67 _ _ IsStep (of_step Closing)
-      (pick b 65 _ _ IsStep (of_step Alternate)
-      (pick b 72 _ _ IsStep (λ e. of_alone (hold (b ∷ bs) at) bs (λ h. cc))
-      (pick b 74 _ _ IsStep (λ e. of_alone (join (b ∷ bs) at) bs (λ h. cc))
-      (pick b 77 _ _ IsStep (λ e. of_alone (meet (b ∷ bs) at) bs (λ h. cc))
-      (pick b 70 _ _ IsStep (λ e. of_alone (forget (b ∷ bs) at) bs (λ h. cc))
-      (λ h. not_accepted h)))))))))
+      (λ no. pick b 69 _ _ IsStep (of_step Erosion)
+      (λ no. pick b 79 _ _ IsStep (of_step Opening)
+      (λ no. pick b 67 _ _ IsStep (of_step Closing)
+      (λ no. pick b 65 _ _ IsStep (of_step Alternate)
+      (λ no. pick b 72 _ _ IsStep (λ e. of_alone (hold (b ∷ bs) at) bs (λ h. cc))
+      (λ no. pick b 74 _ _ IsStep (λ e. of_alone (join (b ∷ bs) at) bs (λ h. cc))
+      (λ no. pick b 77 _ _ IsStep (λ e. of_alone (meet (b ∷ bs) at) bs (λ h. cc))
+      (λ no. pick b 70 _ _ IsStep (λ e. of_alone (forget (b ∷ bs) at) bs (λ h. cc))
+      (λ no h. not_accepted h)))))))))
 
 pub shape_step : (at : ℕ) (bytes : List ℕ) (f : Family) (ds : List ℕ) (at' : ℕ) → shape_of at bytes ≡ accepted (step f ds at') → (bytes ≡ letter f ∷ ds) × Number ds × (at' ≡ at)
 shape_step at [] f ds at' h = not_accepted h

@@ -1,5 +1,5 @@
 -- How a recipe is written: its words with one space between.
-use Rattle.std.specs.Prelude.{ℕ, cond, List, [], ◌∷◌, ◌++◌, length, drop, decimal, nat_lt}
+use Rattle.std.specs.Prelude.{ℕ, ◌+◌, cond, List, [], ◌∷◌, ◌++◌, length, take, drop, decimal, nat_lt}
 use Rattle.std.specs.List.{flat_map}
 use Rattle.refusal.specs.declared.Part.TheVariants as part
 use Rattle.refusal.specs.Reports.{Answer, accepted, refused}
@@ -23,6 +23,10 @@ spaced w = 32 ∷ spelling w
 abbrev pub written : List Word → List ℕ
 written [] = []
 written (w ∷ ws) = spelling w ++ flat_map spaced ws
+
+-- bytes put over others, from a place on
+abbrev pub placed : List ℕ → ℕ → List ℕ → List ℕ
+placed bytes at put = take at bytes ++ (put ++ drop (at + length put) bytes)
 
 -- the answer where a text is to be written over a buffer: its length, or 18 where the buffer is shorter
 abbrev pub write_answer : List ℕ → List ℕ → Answer ℕ
