@@ -9,15 +9,11 @@ use Rattle.recipe.specs.declared.turns.Turn.{Turn}
 use Rattle.recipe.specs.declared.turns.Turn.TheVariants.{Free, Held}
 use Rattle.recipe.specs.declared.words.Word.{Word}
 use Rattle.recipe.specs.declared.words.Word.TheVariants.{Step, Hold, Join, Meet, Forget}
-use Rattle.stories.specs.Words.{combined, Held as HeldWeights, nothing, something, done, pair, words_done}
-
--- what is held in the buffer, by the turn
-abbrev in_turn : {K : Type 0} → Turn → Weighting K → HeldWeights K
-in_turn Free h = nothing
-in_turn Held h = something h
+use Rattle.stories.specs.Words.{combined, nothing, done, pair, words_done}
+use Rattle.stories.proofs.Running.{held_in}
 
 module _ {K : Type 0} (k : Operations K) (g : Shape) where
-  buffer_done : (t : Turn) (ws : List Word) (w h : Weighting K) → fits t ws ≡ true → (words_done k g ws (pair w h)).weights ≡ done k g ws w (in_turn t h)
+  buffer_done : (t : Turn) (ws : List Word) (w h : Weighting K) → fits t ws ≡ true → (words_done k g ws (pair w h)).weights ≡ done k g ws w (held_in t h)
   buffer_done t [] w h f = refl
   buffer_done Free (Step x ∷ ws) w h f = buffer_done Free ws (filtered k g x w) h f
   buffer_done Free (Hold ∷ ws) w h f = buffer_done Held ws w w f
