@@ -1,9 +1,9 @@
 -- The words of a recipe come to the same with a held buffer, whatever it holds as they begin. Assumes nothing.
-use Rattle.std.proofs.Common.{◌≡◌, true, List, [], ◌∷◌, length, replicate, refl, ap₂}
+use Rattle.std.proofs.Common.{◌≡◌, true, List, [], ◌∷◌, refl}
 use mathlib.Core.Bool.{false≢true}
 use Rattle.lattice.specs.Lattices.{Operations}
 use Rattle.graph.specs.Shapes.{Shape}
-use Rattle.filters.specs.Weightings.{Weighting, weighting, blank, filtered}
+use Rattle.filters.specs.Weightings.{Weighting, blank, filtered}
 use Rattle.recipe.specs.Legal.{fits, Legal}
 use Rattle.recipe.specs.declared.turns.Turn.{Turn}
 use Rattle.recipe.specs.declared.turns.Turn.TheVariants.{Free, Held}
@@ -28,7 +28,3 @@ module _ {K : Type 0} (k : Operations K) (g : Shape) where
 
   pub recipe_done : (ws : List Word) (w h : Weighting K) → Legal ws → (words_done k g ws (pair w h)).weights ≡ done k g ws w nothing
   recipe_done ws w h legal = buffer_done Free ws w h legal.fit
-
-  -- buffers that are all lowest are known by their lengths
-  pub blank_same : (vs ys vs' ys' : List K) → length vs ≡ length vs' → length ys ≡ length ys' → blank k (weighting vs ys) ≡ blank k (weighting vs' ys')
-  blank_same vs ys vs' ys' v e = ap₂ (λ m n. weighting (replicate m k.lowest) (replicate n k.lowest)) v e
