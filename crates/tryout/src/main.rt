@@ -17,6 +17,8 @@ use std::io::Read;
 /// One byte more than the longest recipe with its newline: what is longer is refused whatever follows.
 const LONGEST_INPUT: u64 = 4098;
 
+// Kept beside that of `worked_example`: a program owns its memory, and in a library no clause could say what a pair of buffers that
+// `weights_mut` lends becomes.
 /// A weight for each vertex and edge.
 #[derive(Drop)]
 struct Buffers {
