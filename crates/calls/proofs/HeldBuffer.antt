@@ -1,23 +1,19 @@
 -- The words of a recipe come to the same with a held buffer, whatever it holds as they begin. Assumes nothing.
-use Rattle.std.proofs.Common.{◌≡◌, true, List, [], ◌∷◌, length, replicate, refl, ap₂}
+use Rattle.std.proofs.Common.{◌≡◌, true, List, [], ◌∷◌, refl}
 use mathlib.Core.Bool.{false≢true}
 use Rattle.lattice.specs.Lattices.{Operations}
 use Rattle.graph.specs.Shapes.{Shape}
-use Rattle.filters.specs.Weightings.{Weighting, weighting, blank, filtered}
+use Rattle.filters.specs.Weightings.{Weighting, blank, filtered}
 use Rattle.recipe.specs.Legal.{fits, Legal}
 use Rattle.recipe.specs.declared.turns.Turn.{Turn}
 use Rattle.recipe.specs.declared.turns.Turn.TheVariants.{Free, Held}
 use Rattle.recipe.specs.declared.words.Word.{Word}
 use Rattle.recipe.specs.declared.words.Word.TheVariants.{Step, Hold, Join, Meet, Forget}
-use Rattle.stories.specs.Words.{combined, Held as HeldWeights, nothing, something, done, pair, words_done}
-
--- what is held in the buffer, by the turn
-abbrev in_turn : {K : Type 0} → Turn → Weighting K → HeldWeights K
-in_turn Free h = nothing
-in_turn Held h = something h
+use Rattle.stories.specs.Words.{combined, nothing, done, pair, words_done}
+use Rattle.stories.proofs.Running.{held_in}
 
 module _ {K : Type 0} (k : Operations K) (g : Shape) where
-  buffer_done : (t : Turn) (ws : List Word) (w h : Weighting K) → fits t ws ≡ true → (words_done k g ws (pair w h)).weights ≡ done k g ws w (in_turn t h)
+  buffer_done : (t : Turn) (ws : List Word) (w h : Weighting K) → fits t ws ≡ true → (words_done k g ws (pair w h)).weights ≡ done k g ws w (held_in t h)
   buffer_done t [] w h f = refl
   buffer_done Free (Step x ∷ ws) w h f = buffer_done Free ws (filtered k g x w) h f
   buffer_done Free (Hold ∷ ws) w h f = buffer_done Held ws w w f
@@ -32,7 +28,3 @@ module _ {K : Type 0} (k : Operations K) (g : Shape) where
 
   pub recipe_done : (ws : List Word) (w h : Weighting K) → Legal ws → (words_done k g ws (pair w h)).weights ≡ done k g ws w nothing
   recipe_done ws w h legal = buffer_done Free ws w h legal.fit
-
-  -- buffers that are all lowest are known by their lengths
-  pub blank_same : (vs ys vs' ys' : List K) → length vs ≡ length vs' → length ys ≡ length ys' → blank k (weighting vs ys) ≡ blank k (weighting vs' ys')
-  blank_same vs ys vs' ys' v e = ap₂ (λ m n. weighting (replicate m k.lowest) (replicate n k.lowest)) v e

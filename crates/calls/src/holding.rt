@@ -7,7 +7,7 @@ ghost use Rattle.filters.specs.Calls.{outcome};
 ghost use Rattle.filters.specs.Weightings.{weights_in, weights_before, weights_after};
 ghost use Rattle.stories.specs.Calls.{hold_call, combine_call, forget_call};
 
-use crate::releases::{combine, make_lowest};
+use crate::releases::{make_lowest, release};
 use filters::{Semilattice, Weights, WeightsMut, both_fit};
 use graph::Graph;
 use lattice::Kind;
@@ -21,6 +21,7 @@ pub fn hold_weights<K: Kind>(
 ) -> Result<(), Refusal>
     ensures { outcome (answer result) (weights_in weights.entry) (weights_after held.exit) ≡ hold_call (shape_of graph.now) (weights_in weights.entry) (weights_before held.entry) }
 {
+    // Taken apart, here and below: of a struct that holds `&mut`s one field cannot be passed to a call beside another.
     let WeightsMut { vertices, edges } = held;
     if !both_fit(graph, weights.vertices, weights.edges, vertices, edges) {
         return Err(Refusal::WeightBufferLength);
@@ -47,8 +48,7 @@ pub fn combine_held<S: Semilattice<K>, K: Kind>(
     if !both_fit(graph, vertices, edges, held_vertices, held_edges) {
         return Err(Refusal::WeightBufferLength);
     }
-    combine::<S, K>(vertices, edges, held_vertices, held_edges);
-    make_lowest(held_vertices, held_edges);
+    release::<S, K>(vertices, edges, held_vertices, held_edges);
     Ok(())
 }
 

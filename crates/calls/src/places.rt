@@ -11,8 +11,9 @@ pub(crate) fn combine_each<S: Semilattice<K>, K: Copy>(weights: &mut [K], held: 
     requires { length held.now ≡ length weights.old }
     ensures { weights.new ≡ each S.side.combine weights.old held.now }
 {
-    for i in 0..weights.len() {
-        weights[i] = S::combine(weights[i], held[i]);
+    // Not a `zip`: a proof knows nothing of what a chain after `iter_mut` writes, but with `enumerate` it does.
+    for (i, weight) in weights.iter_mut().enumerate() {
+        *weight = S::combine(*weight, held[i]);
     }
 }
 
@@ -21,7 +22,8 @@ pub(crate) fn read_each<R: Reading>(reading: &R, weights: &[R::Source], images: 
     requires { length images.old ≡ length weights.now }
     ensures { images.new ≡ map (R.image reading.now) weights.now }
 {
-    for i in 0..weights.len() {
-        images[i] = reading.read(weights[i]);
+    // Not a `zip`, as above.
+    for (i, image) in images.iter_mut().enumerate() {
+        *image = reading.read(weights[i]);
     }
 }

@@ -23,6 +23,7 @@ pub fn read_weights<K: Kind, R: Reading<Source = K>>(
 ) -> Result<(), Refusal>
     ensures { reads (answer result) (weights_after images.exit) ≡ read_call (R.image reading.now) (shape_of graph.now) (weights_in weights.entry) (weights_before images.entry) }
 {
+    // Taken apart: of a struct that holds `&mut`s one field cannot be passed to a call beside another.
     let WeightsMut { vertices, edges } = images;
     if !both_fit(graph, weights.vertices, weights.edges, vertices, edges) {
         return Err(Refusal::WeightBufferLength);

@@ -16,17 +16,19 @@ pub(crate) fn make_lowest<K: Kind>(vertices: &mut [K], edges: &mut [K])
     fill(edges, K::lowest());
 }
 
-/// Combines each weight with the held one at its place.
-pub(crate) fn combine<S: Semilattice<K>, K: Copy>(
+/// Combines each weight with the held one at its place, and makes the held buffers all lowest.
+pub(crate) fn release<S: Semilattice<K>, K: Kind>(
     vertices: &mut [K],
     edges: &mut [K],
-    held_vertices: &[K],
-    held_edges: &[K],
+    held_vertices: &mut [K],
+    held_edges: &mut [K],
 )
-    requires vertices { length held_vertices.now ≡ length vertices.old }
-    requires edges { length held_edges.now ≡ length edges.old }
-    ensures { weighting vertices.new edges.new ≡ combined S.side.combine (weighting vertices.old edges.old) (weighting held_vertices.now held_edges.now) }
+    requires vertices { length held_vertices.old ≡ length vertices.old }
+    requires edges { length held_edges.old ≡ length edges.old }
+    ensures weights { weighting vertices.new edges.new ≡ combined S.side.combine (weighting vertices.old edges.old) (weighting held_vertices.old held_edges.old) }
+    ensures held { weighting held_vertices.new held_edges.new ≡ blank K.operations (weighting held_vertices.old held_edges.old) }
 {
     combine_each::<S, K>(vertices, held_vertices);
     combine_each::<S, K>(edges, held_edges);
+    make_lowest(held_vertices, held_edges);
 }

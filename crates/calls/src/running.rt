@@ -1,16 +1,16 @@
 //! Recipe texts, run on the weights of a graph.
 
-ghost use Rattle.std.specs.Prelude.{◌≡◌, true, ◌&&◌, length};
+ghost use Rattle.std.specs.Prelude.{◌≡◌, true, ◌&&◌};
 ghost use Rattle.refusal.specs.Reports.{answer};
 ghost use Rattle.graph.specs.Shapes.{shape_of};
-ghost use Rattle.filters.specs.Weightings.{weighting, fits, blank, weights_before, weights_after};
+ghost use Rattle.filters.specs.Weightings.{weighting, fits, Fits, blank, weights_before, weights_after};
 ghost use Rattle.recipe.specs.Contents.{recipe_words};
-ghost use Rattle.recipe.specs.Legal.{Legal, size_fits, sizes_fit};
+ghost use Rattle.recipe.specs.Legal.{Legal, size_fits};
 ghost use Rattle.stories.specs.Calls.{ran, run_call};
-ghost use Rattle.stories.specs.Words.{pair, word_done, words_done, nothing, done};
+ghost use Rattle.stories.specs.Words.{pair, word_done, nothing, done};
 
 use crate::progress::Progress;
-use crate::releases::{combine, make_lowest};
+use crate::releases::{make_lowest, release};
 use filters::{Joins, Meets, WeightsMut, fits};
 use graph::Graph;
 use lattice::Kind;
@@ -33,6 +33,8 @@ fn all_fit<K>(
         && (fits(graph, vertex_scratch, edge_scratch) && fits(graph, held_vertices, held_edges))
 }
 
+// Kept as slices here and below: a `WeightsMut` cannot be passed on to the next call, and a struct that is lent by `&mut` would
+// have to promise of each of its six references that it stays the same one, which is more than the three facts on the lengths.
 /// Does one word.
 fn do_word<K: Kind>(
     word: Word,
@@ -45,12 +47,9 @@ fn do_word<K: Kind>(
     held_edges: &mut [K],
 )
     requires size { size_fits word ≡ true }
-    requires vertices { length vertices.old ≡ graph.now.n }
-    requires edges { length edges.old ≡ length graph.now.edges.now }
-    requires vertex_scratch { length vertex_scratch.old ≡ graph.now.n }
-    requires edge_scratch { length edge_scratch.old ≡ length graph.now.edges.now }
-    requires held_vertices { length held_vertices.old ≡ graph.now.n }
-    requires held_edges { length held_edges.old ≡ length graph.now.edges.now }
+    requires weights { Fits (shape_of graph.now) (weighting vertices.old edges.old) }
+    requires scratch { Fits (shape_of graph.now) (weighting vertex_scratch.old edge_scratch.old) }
+    requires held { Fits (shape_of graph.now) (weighting held_vertices.old held_edges.old) }
     ensures { pair (weighting vertices.new edges.new) (weighting held_vertices.new held_edges.new) ≡ word_done K.operations (shape_of graph.now) word (pair (weighting vertices.old edges.old) (weighting held_vertices.old held_edges.old)) }
 {
     match word {
@@ -65,20 +64,14 @@ fn do_word<K: Kind>(
             held_vertices.copy_from_slice(vertices);
             held_edges.copy_from_slice(edges);
         }
-        Word::Join => {
-            combine::<Joins, K>(vertices, edges, held_vertices, held_edges);
-            make_lowest(held_vertices, held_edges);
-        }
-        Word::Meet => {
-            combine::<Meets, K>(vertices, edges, held_vertices, held_edges);
-            make_lowest(held_vertices, held_edges);
-        }
+        Word::Join => release::<Joins, K>(vertices, edges, held_vertices, held_edges),
+        Word::Meet => release::<Meets, K>(vertices, edges, held_vertices, held_edges),
         Word::Forget => make_lowest(held_vertices, held_edges),
     }
 }
 
-/// Does words in order, and tells after each how many are done.
-fn do_words<K: Kind, P: Progress>(
+/// Does the words of a recipe in order, tells after each how many are done, and clears scratch and held buffers.
+fn do_recipe<K: Kind, P: Progress>(
     words: &[Word],
     graph: &Graph,
     vertices: &mut [K],
@@ -89,14 +82,13 @@ fn do_words<K: Kind, P: Progress>(
     held_edges: &mut [K],
     progress: &mut P,
 )
-    requires sizes { sizes_fit words.now ≡ true }
-    requires vertices { length vertices.old ≡ graph.now.n }
-    requires edges { length edges.old ≡ length graph.now.edges.now }
-    requires vertex_scratch { length vertex_scratch.old ≡ graph.now.n }
-    requires edge_scratch { length edge_scratch.old ≡ length graph.now.edges.now }
-    requires held_vertices { length held_vertices.old ≡ graph.now.n }
-    requires held_edges { length held_edges.old ≡ length graph.now.edges.now }
-    ensures { pair (weighting vertices.new edges.new) (weighting held_vertices.new held_edges.new) ≡ words_done K.operations (shape_of graph.now) words.now (pair (weighting vertices.old edges.old) (weighting held_vertices.old held_edges.old)) }
+    requires legal { Legal words.now }
+    requires weights { Fits (shape_of graph.now) (weighting vertices.old edges.old) }
+    requires scratch { Fits (shape_of graph.now) (weighting vertex_scratch.old edge_scratch.old) }
+    requires held { Fits (shape_of graph.now) (weighting held_vertices.old held_edges.old) }
+    ensures weights { weighting vertices.new edges.new ≡ done K.operations (shape_of graph.now) words.now (weighting vertices.old edges.old) nothing }
+    ensures scratch { weighting vertex_scratch.new edge_scratch.new ≡ blank K.operations (weighting vertex_scratch.old edge_scratch.old) }
+    ensures held { weighting held_vertices.new held_edges.new ≡ blank K.operations (weighting held_vertices.old held_edges.old) }
 {
     for (i, word) in words.iter().enumerate() {
         do_word(
@@ -111,42 +103,6 @@ fn do_words<K: Kind, P: Progress>(
         );
         progress.word_done(i + 1, words.len());
     }
-}
-
-/// Does the words of a recipe in order, and clears scratch and held buffers.
-fn do_recipe<K: Kind, P: Progress>(
-    words: &[Word],
-    graph: &Graph,
-    vertices: &mut [K],
-    edges: &mut [K],
-    vertex_scratch: &mut [K],
-    edge_scratch: &mut [K],
-    held_vertices: &mut [K],
-    held_edges: &mut [K],
-    progress: &mut P,
-)
-    requires legal { Legal words.now }
-    requires vertices { length vertices.old ≡ graph.now.n }
-    requires edges { length edges.old ≡ length graph.now.edges.now }
-    requires vertex_scratch { length vertex_scratch.old ≡ graph.now.n }
-    requires edge_scratch { length edge_scratch.old ≡ length graph.now.edges.now }
-    requires held_vertices { length held_vertices.old ≡ graph.now.n }
-    requires held_edges { length held_edges.old ≡ length graph.now.edges.now }
-    ensures weights { weighting vertices.new edges.new ≡ done K.operations (shape_of graph.now) words.now (weighting vertices.old edges.old) nothing }
-    ensures scratch { weighting vertex_scratch.new edge_scratch.new ≡ blank K.operations (weighting vertex_scratch.old edge_scratch.old) }
-    ensures held { weighting held_vertices.new held_edges.new ≡ blank K.operations (weighting held_vertices.old held_edges.old) }
-{
-    do_words(
-        words,
-        graph,
-        vertices,
-        edges,
-        vertex_scratch,
-        edge_scratch,
-        held_vertices,
-        held_edges,
-        progress,
-    );
     make_lowest(vertex_scratch, edge_scratch);
     make_lowest(held_vertices, held_edges);
 }

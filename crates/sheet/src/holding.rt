@@ -26,8 +26,7 @@ impl<'g, 'e, K: Kind> Sheet<'g, 'e, K, Clear> {
         ensures buffers { outcome (moved result) (weights_in weights.entry) (weights_after held.exit) ≡ hold_call (sheet_shape self.entry) (weights_in weights.entry) (weights_before held.entry) }
         ensures sheet { graph_after result ≡ self.entry.graph }
     {
-        let Weights { vertices, edges } = weights;
-        let weights = Weights { vertices, edges };
+        // Taken apart first, here and below, since a parameter that holds a `&mut` slice cannot be passed on to a call.
         let WeightsMut { vertices, edges } = held;
         let said = hold_weights(self.graph, weights, WeightsMut { vertices, edges });
         self.settle(said)
@@ -82,8 +81,6 @@ impl<'g, 'e, K: Kind> Sheet<'g, 'e, K, Holding> {
         ensures buffers { outcome (moved result) (weights_in weights.entry) (weights_after held.exit) ≡ forget_call K.operations (sheet_shape self.entry) (weights_in weights.entry) (weights_before held.entry) }
         ensures sheet { graph_after result ≡ self.entry.graph }
     {
-        let Weights { vertices, edges } = weights;
-        let weights = Weights { vertices, edges };
         let WeightsMut { vertices, edges } = held;
         let said = forget_held(self.graph, weights, WeightsMut { vertices, edges });
         self.settle(said)

@@ -30,6 +30,7 @@ impl<'g, 'e, K: Stored> Sheet<'g, 'e, K, Clear> {
         ensures buffers { loaded (opened result) (weights_after weights.exit) ≡ load_call K.Kind.operations K.Kind.leq (format K.Stored.size K.Stored.parsed) (shape_of graph.now) vertex_records.now (bytes_in edge_records.entry) (weights_before weights.entry) }
         ensures sheet { KeepsGraph graph.entry result }
     {
+        // Taken apart first, since a parameter that holds a `&mut` slice cannot be passed on to a call.
         let WeightsMut { vertices, edges } = weights;
         load(
             graph,
@@ -53,15 +54,9 @@ impl<'g, 'e, K: Stored> Sheet<'g, 'e, K, Clear> {
         ensures buffers { stored (closed result) (bytes_of_both vertex_records.new edge_records.new) ≡ store_call K.Stored.size K.Stored.written (sheet_shape self.entry) (weights_in weights.entry) (bytes_of_both vertex_records.old edge_records.old) }
         ensures sheet { HandsBack self.entry.graph result }
     {
-        let Weights { vertices, edges } = weights;
-        match store(
-            self.graph,
-            Weights { vertices, edges },
-            vertex_records,
-            edge_records,
-        ) {
-            Ok(()) => Ok(()),
-            Err(why) => Err(Refused { sheet: self, why }),
-        }
+        store(self.graph, weights, vertex_records, edge_records).map_err(|why| Refused {
+            sheet: self,
+            why,
+        })
     }
 }

@@ -41,8 +41,7 @@ impl<'g, 'e, K: Kind, S> Sheet<'g, 'e, K, S> {
         story_laws::<K>();
         story_laws::<R::Target>();
         stories_commute(reading);
-        let Weights { vertices, edges } = weights;
-        let weights = Weights { vertices, edges };
+        // Taken apart first, since a parameter that holds a `&mut` slice cannot be passed on to a call.
         let WeightsMut { vertices, edges } = images;
         read_weights(self.graph, reading, weights, WeightsMut { vertices, edges })
     }

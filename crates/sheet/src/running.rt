@@ -31,6 +31,7 @@ impl<'g, 'e, K: Kind> Sheet<'g, 'e, K, Clear> {
     ) -> Result<(), Refusal>
         ensures { ran (answer result) (weights_after weights.exit) (weights_after scratch.exit) (weights_after held.exit) (recipe_words place.new) ≡ run_call K.operations (sheet_shape self.now) text.now (weights_before weights.entry) (weights_before scratch.entry) (weights_before held.entry) (recipe_words place.old) }
     {
+        // Taken apart first, here and below, since a parameter that holds a `&mut` slice cannot be passed on to a call.
         let WeightsMut { vertices, edges } = weights;
         let weights = WeightsMut { vertices, edges };
         let WeightsMut { vertices, edges } = scratch;

@@ -35,6 +35,7 @@ impl<'g, 'e, K: Kind, S> Sheet<'g, 'e, K, S> {
         ensures absorb { StoriesAbsorb K.operations }
     {
         story_laws::<K>();
+        // Taken apart first, since a parameter that holds a `&mut` slice cannot be passed on to a call.
         let WeightsMut { vertices, edges } = weights;
         let WeightsMut {
             vertices: vertex_scratch,

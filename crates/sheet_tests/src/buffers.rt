@@ -1,27 +1,54 @@
 // All buffers of a sheet of the path, and which of them a call is given one place too short.
 
+use filters::WeightsMut;
 use lattice::Kind;
+
+// A weight for each vertex and edge.
+#[derive(Clone, Copy, PartialEq, Debug)]
+pub struct Pair<K> {
+    pub vertices: [K; 5],
+    pub edges: [K; 4],
+}
+
+impl<K: Kind> Pair<K> {
+    // This weight at every place.
+    pub(crate) fn all(weight: K) -> Pair<K> {
+        Pair {
+            vertices: [weight; 5],
+            edges: [weight; 4],
+        }
+    }
+
+    // Both buffers, the one that is to be short without its last place.
+    pub(crate) fn lend(
+        &mut self,
+        short: Option<Short>,
+        vertices: Short,
+        edges: Short,
+    ) -> WeightsMut<'_, '_, K> {
+        let all_vertices = &mut self.vertices;
+        let all_edges = &mut self.edges;
+        WeightsMut {
+            vertices: cut_short(&mut all_vertices[..], short == Some(vertices)),
+            edges: cut_short(&mut all_edges[..], short == Some(edges)),
+        }
+    }
+}
 
 #[derive(Clone, Copy, PartialEq, Debug)]
 pub struct Buffers<K> {
-    pub vertices: [K; 5],
-    pub edges: [K; 4],
-    pub vertex_scratch: [K; 5],
-    pub edge_scratch: [K; 4],
-    pub held_vertices: [K; 5],
-    pub held_edges: [K; 4],
+    pub weights: Pair<K>,
+    pub scratch: Pair<K>,
+    pub held: Pair<K>,
 }
 
 // These weights, with the highest value in all other buffers.
 pub(crate) fn weights_alone<K: Kind>(weights: ([K; 5], [K; 4])) -> Buffers<K> {
     let (vertices, edges) = weights;
     Buffers {
-        vertices,
-        edges,
-        vertex_scratch: [K::highest(); 5],
-        edge_scratch: [K::highest(); 4],
-        held_vertices: [K::highest(); 5],
-        held_edges: [K::highest(); 4],
+        weights: Pair { vertices, edges },
+        scratch: Pair::all(K::highest()),
+        held: Pair::all(K::highest()),
     }
 }
 
@@ -30,18 +57,18 @@ pub(crate) fn with_held<K: Kind>(weights: ([K; 5], [K; 4]), held: ([K; 5], [K; 4
     let (vertices, edges) = weights;
     let (held_vertices, held_edges) = held;
     Buffers {
-        vertices,
-        edges,
-        vertex_scratch: [K::lowest(); 5],
-        edge_scratch: [K::lowest(); 4],
-        held_vertices,
-        held_edges,
+        weights: Pair { vertices, edges },
+        scratch: Pair::all(K::lowest()),
+        held: Pair {
+            vertices: held_vertices,
+            edges: held_edges,
+        },
     }
 }
 
+// The buffer that is short.
 #[derive(Clone, Copy, PartialEq, Debug)]
 pub enum Short {
-    None,
     Vertices,
     Edges,
     VertexScratch,
@@ -51,11 +78,9 @@ pub enum Short {
 }
 
 // The buffer, without its last place where it is to be short.
-pub(crate) fn cut_short<K>(buffer: &mut [K], short: bool) -> &mut [K] {
-    let len = buffer.len();
-    if short && len > 0 {
-        &mut buffer[..len - 1]
-    } else {
-        buffer
+fn cut_short<K>(buffer: &mut [K], short: bool) -> &mut [K] {
+    match buffer.len().checked_sub(1) {
+        Some(last) if short => &mut buffer[..last],
+        _ => buffer,
     }
 }

@@ -1,7 +1,7 @@
 // Records from sheets, and back.
 
 use crate::support::*;
-use filters::{Weights, WeightsMut};
+use filters::{Family, Weights, WeightsMut};
 use graph::Edge;
 use lattice::*;
 use path_sheet::{edge_records, edges, vertex_records};
@@ -19,7 +19,7 @@ fn close(
     edge_bytes: &mut [u8],
     other_vertex_bytes: &mut [u8],
     other_edge_bytes: &mut [u8],
-) -> Result<(u8, usize, Option<Part>), Refusal> {
+) -> Result<Answer, Refusal> {
     let graph = graph_of(5, rows);
     let (mut path_vertices, mut path_edges) = path_levels([0; 5], [0; 4]);
     let weights = WeightsMut {
@@ -35,7 +35,7 @@ fn close(
                 edges: &path_edges,
             };
             sheet.close(weights, other_vertex_bytes, other_edge_bytes)?;
-            Ok(report(why))
+            Ok(Err(report(why)))
         }
     }
 }
@@ -45,14 +45,7 @@ fn closed<const N: usize, const M: usize, const B: usize, const C: usize>(
     vertices: [u16; N],
     edge_weights: [u16; M],
     bytes: ([u8; B], [u8; C]),
-) -> Result<
-    (
-        (u8, usize, Option<Part>),
-        ([u8; B], [u8; C]),
-        ([u8; 10], [u8; 8]),
-    ),
-    Refusal,
-> {
+) -> Result<(Answer, ([u8; B], [u8; C]), ([u8; 10], [u8; 8])), Refusal> {
     let (mut vertex_bytes, mut edge_bytes) = bytes;
     let mut other_vertex_bytes = [9; 10];
     let mut other_edge_bytes = [9; 8];
@@ -140,7 +133,7 @@ fn reopened(
         vertices: &mut vertex_scratch,
         edges: &mut edge_scratch,
     };
-    sheet.step(d(1), weights, scratch)?;
+    sheet.step(filter(Family::Dilation, 1), weights, scratch)?;
     let mut vertex_bytes = [0; 10];
     let mut edge_bytes = [0; 8];
     let weights = Weights {

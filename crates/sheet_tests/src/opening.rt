@@ -16,24 +16,21 @@ fn opened<K: Stored, const N: usize, const M: usize>(
     vertex_records: &[u8],
     edge_records: Option<&[u8]>,
     before: ([K; N], [K; M]),
-) -> ((u8, usize, Option<Part>), ([K; N], [K; M])) {
+) -> (Answer, ([K; N], [K; M])) {
     let graph = graph_of(n, rows);
     let (mut vertices, mut edges) = before;
     let weights = WeightsMut {
         vertices: &mut vertices,
         edges: &mut edges,
     };
-    let answer = match Sheet::open(&graph, vertex_records, edge_records, weights) {
-        Ok(_) => ACCEPTED,
-        Err(refusal) => report(refusal),
-    };
+    let answer = Sheet::open(&graph, vertex_records, edge_records, weights)
+        .map(|_| ())
+        .map_err(report);
     (answer, (vertices, edges))
 }
 
 // What opening a sheet of the path answers.
-fn opened_path(
-    edge_records: Option<&[u8]>,
-) -> ((u8, usize, Option<Part>), ([Level; 5], [Level; 4])) {
+fn opened_path(edge_records: Option<&[u8]>) -> (Answer, ([Level; 5], [Level; 4])) {
     let before = path_levels([9; 5], [8; 4]);
     opened(5, &edges(), &vertex_records(), edge_records, before)
 }
@@ -69,7 +66,7 @@ fn opened_edge<const N: usize, const M: usize>(
     vertex_records: &[u8],
     edge_records: Option<&[u8]>,
     before: ([Level; N], [Level; M]),
-) -> ((u8, usize, Option<Part>), ([Level; N], [Level; M])) {
+) -> (Answer, ([Level; N], [Level; M])) {
     let rows = [Edge {
         first: 0,
         second: 1,
@@ -164,8 +161,8 @@ fn turned<const N: usize>(values: [u16; N]) -> [Reversed<Level>; N] {
     let mut weights = [Reversed {
         inner: Level::new(0),
     }; N];
-    for (i, value) in values.iter().enumerate() {
-        weights[i] = Reversed {
+    for (weight, value) in weights.iter_mut().zip(values.iter()) {
+        *weight = Reversed {
             inner: Level::new(*value),
         };
     }

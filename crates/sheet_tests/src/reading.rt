@@ -15,22 +15,14 @@ fn cut<S, const N: usize, const M: usize>(
     sheet: &Sheet<'_, '_, Level, S>,
     weights: Weights<'_, '_, Level>,
     before: ([Presence; N], [Presence; M]),
-) -> Result<((u8, usize, Option<Part>), ([Presence; N], [Presence; M])), Refusal> {
+) -> Result<(Answer, ([Presence; N], [Presence; M])), Refusal> {
     let reading = LevelCut::new(Level::new(5))?;
     let (mut vertices, mut edges) = before;
     let images = WeightsMut {
         vertices: &mut vertices,
         edges: &mut edges,
     };
-    let Weights {
-        vertices: read_vertices,
-        edges: read_edges,
-    } = weights;
-    let weights = Weights {
-        vertices: read_vertices,
-        edges: read_edges,
-    };
-    let answer = outcome(sheet.read(&reading, weights, images));
+    let answer = sheet.read(&reading, weights, images).map_err(report);
     Ok((answer, (vertices, edges)))
 }
 
@@ -41,7 +33,7 @@ fn cuts<const N: usize, const M: usize>(
     edges: &[Level],
     before: ([Presence; N], [Presence; M]),
     before_holding: ([Presence; N], [Presence; M]),
-) -> Result<[((u8, usize, Option<Part>), ([Presence; N], [Presence; M])); 2], Refusal> {
+) -> Result<[(Answer, ([Presence; N], [Presence; M])); 2], Refusal> {
     let graph = graph_of(5, rows);
     let (mut path_vertices, mut path_edges) = path_levels([0; 5], [0; 4]);
     let (mut held_vertices, mut held_edges) = path_levels([0; 5], [0; 4]);

@@ -5,7 +5,6 @@ use crate::support::*;
 use filters::{Filter, Weights, WeightsMut};
 use lattice::Kind;
 use recipe::Recipe;
-use refusal::Part;
 use sheet::{Clear, Holding, Refused, Sheet};
 
 // A call. There are two texts to run, the one and the other.
@@ -26,42 +25,50 @@ pub enum State<'g, 'e, K> {
     Holding(Sheet<'g, 'e, K, Holding>),
 }
 
-// The answer to a call that the state does not take. Calls answer no such number.
-pub const NOT_TAKEN: (u8, usize, Option<Part>) = (255, 0, None);
+// The answer to a call that the state does not take.
+pub const NOT_TAKEN: Answer = Err(Why::NotTaken);
 
 fn call_clear<'g, 'e, K: Kind>(
     sheet: Sheet<'g, 'e, K, Clear>,
     call: Call,
+    short: Option<Short>,
     text: &[u8],
     place: &mut Recipe,
-    vertices: &mut [K],
-    edges: &mut [K],
-    vertex_scratch: &mut [K],
-    edge_scratch: &mut [K],
-    held_vertices: &mut [K],
-    held_edges: &mut [K],
-) -> (State<'g, 'e, K>, (u8, usize, Option<Part>)) {
-    let held = WeightsMut {
-        vertices: held_vertices,
-        edges: held_edges,
-    };
-    let scratch = WeightsMut {
-        vertices: vertex_scratch,
-        edges: edge_scratch,
-    };
+    buffers: &mut Buffers<K>,
+) -> (State<'g, 'e, K>, Answer) {
+    let Buffers {
+        weights,
+        scratch,
+        held,
+    } = buffers;
     match call {
         Call::Step(filter) => {
-            let answer = sheet.step(filter, WeightsMut { vertices, edges }, scratch);
-            (State::Clear(sheet), outcome(answer))
+            let answer = sheet.step(
+                filter,
+                weights.lend(short, Short::Vertices, Short::Edges),
+                scratch.lend(short, Short::VertexScratch, Short::EdgeScratch),
+            );
+            (State::Clear(sheet), answer.map_err(report))
         }
-        Call::Hold => match sheet.hold(Weights { vertices, edges }, held) {
-            Ok(sheet) => (State::Holding(sheet), ACCEPTED),
-            Err(Refused { sheet, why }) => (State::Clear(sheet), report(why)),
-        },
+        Call::Hold => {
+            let WeightsMut { vertices, edges } = weights.lend(short, Short::Vertices, Short::Edges);
+            match sheet.hold(
+                Weights { vertices, edges },
+                held.lend(short, Short::HeldVertices, Short::HeldEdges),
+            ) {
+                Ok(sheet) => (State::Holding(sheet), ACCEPTED),
+                Err(Refused { sheet, why }) => (State::Clear(sheet), Err(report(why))),
+            }
+        }
         Call::Run | Call::RunOther => {
-            let weights = WeightsMut { vertices, edges };
-            let answer = sheet.run(text, place, weights, scratch, held);
-            (State::Clear(sheet), outcome(answer))
+            let answer = sheet.run(
+                text,
+                place,
+                weights.lend(short, Short::Vertices, Short::Edges),
+                scratch.lend(short, Short::VertexScratch, Short::EdgeScratch),
+                held.lend(short, Short::HeldVertices, Short::HeldEdges),
+            );
+            (State::Clear(sheet), answer.map_err(report))
         }
         _ => (State::Clear(sheet), NOT_TAKEN),
     }
@@ -70,34 +77,36 @@ fn call_clear<'g, 'e, K: Kind>(
 fn call_holding<'g, 'e, K: Kind>(
     sheet: Sheet<'g, 'e, K, Holding>,
     call: Call,
-    vertices: &mut [K],
-    edges: &mut [K],
-    vertex_scratch: &mut [K],
-    edge_scratch: &mut [K],
-    held_vertices: &mut [K],
-    held_edges: &mut [K],
-) -> (State<'g, 'e, K>, (u8, usize, Option<Part>)) {
-    let held = WeightsMut {
-        vertices: held_vertices,
-        edges: held_edges,
-    };
+    short: Option<Short>,
+    buffers: &mut Buffers<K>,
+) -> (State<'g, 'e, K>, Answer) {
+    let Buffers {
+        weights,
+        scratch,
+        held,
+    } = buffers;
+    let weights = weights.lend(short, Short::Vertices, Short::Edges);
+    let held = held.lend(short, Short::HeldVertices, Short::HeldEdges);
     let released = match call {
         Call::Step(filter) => {
-            let scratch = WeightsMut {
-                vertices: vertex_scratch,
-                edges: edge_scratch,
-            };
-            let answer = sheet.step(filter, WeightsMut { vertices, edges }, scratch);
-            return (State::Holding(sheet), outcome(answer));
+            let answer = sheet.step(
+                filter,
+                weights,
+                scratch.lend(short, Short::VertexScratch, Short::EdgeScratch),
+            );
+            return (State::Holding(sheet), answer.map_err(report));
         }
-        Call::Join => sheet.join(WeightsMut { vertices, edges }, held),
-        Call::Meet => sheet.meet(WeightsMut { vertices, edges }, held),
-        Call::Forget => sheet.forget(Weights { vertices, edges }, held),
+        Call::Join => sheet.join(weights, held),
+        Call::Meet => sheet.meet(weights, held),
+        Call::Forget => {
+            let WeightsMut { vertices, edges } = weights;
+            sheet.forget(Weights { vertices, edges }, held)
+        }
         _ => return (State::Holding(sheet), NOT_TAKEN),
     };
     match released {
         Ok(sheet) => (State::Clear(sheet), ACCEPTED),
-        Err(Refused { sheet, why }) => (State::Holding(sheet), report(why)),
+        Err(Refused { sheet, why }) => (State::Holding(sheet), Err(report(why))),
     }
 }
 
@@ -105,48 +114,13 @@ fn call_holding<'g, 'e, K: Kind>(
 pub(crate) fn make_call<'g, 'e, K: Kind>(
     state: State<'g, 'e, K>,
     call: Call,
-    short: Short,
+    short: Option<Short>,
     text: &[u8],
     place: &mut Recipe,
     buffers: &mut Buffers<K>,
-) -> (State<'g, 'e, K>, (u8, usize, Option<Part>)) {
-    let vertices = cut_short(&mut buffers.vertices, matches!(short, Short::Vertices));
-    let edges = cut_short(&mut buffers.edges, matches!(short, Short::Edges));
-    let vertex_scratch = cut_short(
-        &mut buffers.vertex_scratch,
-        matches!(short, Short::VertexScratch),
-    );
-    let edge_scratch = cut_short(
-        &mut buffers.edge_scratch,
-        matches!(short, Short::EdgeScratch),
-    );
-    let held_vertices = cut_short(
-        &mut buffers.held_vertices,
-        matches!(short, Short::HeldVertices),
-    );
-    let held_edges = cut_short(&mut buffers.held_edges, matches!(short, Short::HeldEdges));
+) -> (State<'g, 'e, K>, Answer) {
     match state {
-        State::Clear(sheet) => call_clear(
-            sheet,
-            call,
-            text,
-            place,
-            vertices,
-            edges,
-            vertex_scratch,
-            edge_scratch,
-            held_vertices,
-            held_edges,
-        ),
-        State::Holding(sheet) => call_holding(
-            sheet,
-            call,
-            vertices,
-            edges,
-            vertex_scratch,
-            edge_scratch,
-            held_vertices,
-            held_edges,
-        ),
+        State::Clear(sheet) => call_clear(sheet, call, short, text, place, buffers),
+        State::Holding(sheet) => call_holding(sheet, call, short, buffers),
     }
 }

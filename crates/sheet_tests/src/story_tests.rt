@@ -3,7 +3,7 @@
 use crate::buffers::*;
 use crate::story_calls::*;
 use crate::support::*;
-use filters::WeightsMut;
+use filters::{Family, WeightsMut};
 use graph::Edge;
 use lattice::*;
 use path_sheet::{VERTICES, edge_records, edges, vertex_records};
@@ -17,12 +17,12 @@ use std::test::Fail;
 // Makes the calls of a story, and writes each answer and what the buffers hold after it.
 fn tell<K: Kind>(
     sheet: Sheet<'_, '_, K, Clear>,
-    story: &[(Call, Short)],
+    story: &[(Call, Option<Short>)],
     text: &[u8],
     other_text: &[u8],
     place: &mut Recipe,
     start: Buffers<K>,
-    answers: &mut [(u8, usize, Option<Part>)],
+    answers: &mut [Answer],
     after: &mut [Buffers<K>],
 ) {
     let mut current = start;
@@ -47,16 +47,16 @@ fn tell<K: Kind>(
 fn trace<K: Stored, const R: usize>(
     rows: &[Edge],
     records: &[u8],
-    story: [(Call, Short); R],
+    story: [(Call, Option<Short>); R],
     text: &[u8],
     other_text: &[u8],
     place: &mut Recipe,
-) -> Result<([(u8, usize, Option<Part>); R], [Buffers<K>; R]), Refusal> {
+) -> Result<([Answer; R], [Buffers<K>; R]), Refusal> {
     let graph = graph_of(VERTICES, rows);
     let mut start = weights_alone(([K::lowest(); 5], [K::lowest(); 4]));
     let weights = WeightsMut {
-        vertices: &mut start.vertices,
-        edges: &mut start.edges,
+        vertices: &mut start.weights.vertices,
+        edges: &mut start.weights.edges,
     };
     let sheet = Sheet::open(&graph, records, edge_records(), weights)?;
     let mut answers = [NOT_TAKEN; R];
@@ -76,24 +76,24 @@ fn trace<K: Stored, const R: usize>(
 
 // A story on the path sheet.
 fn on_path<const R: usize>(
-    story: [(Call, Short); R],
+    story: [(Call, Option<Short>); R],
     text: &[u8],
     other_text: &[u8],
     place: &mut Recipe,
-) -> Result<([(u8, usize, Option<Part>); R], [Buffers<Level>; R]), Refusal> {
+) -> Result<([Answer; R], [Buffers<Level>; R]), Refusal> {
     trace(&edges(), &vertex_records(), story, text, other_text, place)
 }
 
 // A story without runs on the path sheet.
 fn answered<const R: usize>(
-    story: [(Call, Short); R],
-) -> Result<([(u8, usize, Option<Part>); R], [Buffers<Level>; R]), Refusal> {
+    story: [(Call, Option<Short>); R],
+) -> Result<([Answer; R], [Buffers<Level>; R]), Refusal> {
     let mut place = Recipe::empty();
     on_path(story, b"", b"", &mut place)
 }
 
 // One run on the path sheet.
-fn run(text: &[u8], short: Short) -> Result<((u8, usize, Option<Part>), Buffers<Level>), Refusal> {
+fn run(text: &[u8], short: Option<Short>) -> Result<(Answer, Buffers<Level>), Refusal> {
     let mut place = Recipe::empty();
     let ([answer], [after]) = on_path([(Call::Run, short)], text, b"", &mut place)?;
     Ok((answer, after))
@@ -107,7 +107,7 @@ fn zeros() -> ([Level; 5], [Level; 4]) {
     path_levels([0; 5], [0; 4])
 }
 
-const WRONG_LENGTH: (u8, usize, Option<Part>) = (7, 0, Some(Part::Sheet));
+const WRONG_LENGTH: Answer = Err(Why::Refused(7, 0, Part::Sheet));
 
 const ALL: [Short; 6] = [
     Short::Vertices,
@@ -137,13 +137,16 @@ const HELD: [Short; 4] = [
 fn refused_steps(rt: HostRuntime) -> Result<(), Fail> {
     for short in STEPPED {
         for size in [0, 1, 201] {
-            let (answers, after) = answered([(Call::Step(d(size)), short)])?;
+            let (answers, after) = answered([(
+                Call::Step(filter(Family::Dilation, size)),
+                Some(short),
+            )])?;
             assert_eq!(rt; answers, [WRONG_LENGTH]);
             assert_eq!(rt; after, [weights_alone(start())]);
         }
     }
     for size in [0, 201] {
-        let (answers, after) = answered([(Call::Step(d(size)), Short::None)])?;
+        let (answers, after) = answered([(Call::Step(filter(Family::Dilation, size)), None)])?;
         assert_eq!(rt; answers, [refused(11, 0, Part::Sheet)]);
         assert_eq!(rt; after, [weights_alone(start())]);
     }
@@ -153,7 +156,7 @@ fn refused_steps(rt: HostRuntime) -> Result<(), Fail> {
 // An accepted step leaves what is held, and scratch all lowest.
 #[test]
 fn accepted_step(rt: HostRuntime) -> Result<(), Fail> {
-    let (answers, [after]) = answered([(Call::Step(o(1)), Short::None)])?;
+    let (answers, [after]) = answered([(Call::Step(filter(Family::Opening, 1)), None)])?;
     assert_eq!(rt; answers, [ACCEPTED]);
     let weights = path_levels([2, 2, 7, 7, 1], [2, 2, 2, 1]);
     assert_eq!(rt;
@@ -168,9 +171,9 @@ fn accepted_step(rt: HostRuntime) -> Result<(), Fail> {
 fn holds(rt: HostRuntime) -> Result<(), Fail> {
     for short in HELD {
         let (answers, after) = answered([
-            (Call::Hold, short),
-            (Call::Step(d(1)), Short::None),
-            (Call::Hold, Short::None),
+            (Call::Hold, Some(short)),
+            (Call::Step(filter(Family::Dilation, 1)), None),
+            (Call::Hold, None),
         ])?;
         assert_eq!(rt; answers, [WRONG_LENGTH, ACCEPTED, ACCEPTED]);
         let dilated = path_levels([5, 7, 7, 7, 7], [2, 7, 7, 7]);
@@ -191,10 +194,10 @@ fn holds(rt: HostRuntime) -> Result<(), Fail> {
 fn releases(rt: &impl Abort, call: Call, weights: ([Level; 5], [Level; 4])) -> Result<(), Fail> {
     for short in HELD {
         let (answers, [_, dilated, unchanged, released]) = answered([
-            (Call::Hold, Short::None),
-            (Call::Step(d(1)), Short::None),
-            (call, short),
-            (call, Short::None),
+            (Call::Hold, None),
+            (Call::Step(filter(Family::Dilation, 1)), None),
+            (call, Some(short)),
+            (call, None),
         ])?;
         assert_eq!(rt; answers, [ACCEPTED, ACCEPTED, WRONG_LENGTH, ACCEPTED]);
         assert_eq!(rt;
@@ -230,15 +233,15 @@ fn forgets(rt: HostRuntime) -> Result<(), Fail> {
 #[test]
 fn joins_and_meets_place_by_place(rt: HostRuntime) -> Result<(), Fail> {
     let (_, [_, _, joined]) = answered([
-        (Call::Hold, Short::None),
-        (Call::Step(e(1)), Short::None),
-        (Call::Join, Short::None),
+        (Call::Hold, None),
+        (Call::Step(filter(Family::Erosion, 1)), None),
+        (Call::Join, None),
     ])?;
     assert_eq!(rt; joined, with_held(start(), zeros()));
     let (_, [_, _, met]) = answered([
-        (Call::Hold, Short::None),
-        (Call::Step(e(1)), Short::None),
-        (Call::Meet, Short::None),
+        (Call::Hold, None),
+        (Call::Step(filter(Family::Erosion, 1)), None),
+        (Call::Meet, None),
     ])?;
     assert_eq!(rt;
         met,
@@ -254,7 +257,10 @@ const TEXTS: &[&[u8]] = &[b"C1", b"O3 4 C2", &[b' '; 4097]];
 fn runs_of_short_buffers(rt: HostRuntime) -> Result<(), Fail> {
     for short in ALL {
         for text in TEXTS {
-            assert_eq!(rt; run(text, short)?, (WRONG_LENGTH, weights_alone(start())));
+            assert_eq!(rt;
+                run(text, Some(short))?,
+                (WRONG_LENGTH, weights_alone(start()))
+            );
         }
     }
     Ok(())
@@ -273,7 +279,7 @@ const REFUSED_TEXTS: &[(&[u8], u8, usize, Part)] = &[
 fn refused_runs(rt: HostRuntime) -> Result<(), Fail> {
     for (text, number, place, part) in REFUSED_TEXTS {
         let answer = refused(*number, *place, *part);
-        assert_eq!(rt; run(text, Short::None)?, (answer, weights_alone(start())));
+        assert_eq!(rt; run(text, None)?, (answer, weights_alone(start())));
     }
     Ok(())
 }
@@ -292,7 +298,7 @@ const ACCEPTED_TEXTS: &[(&[u8], [u16; 5], [u16; 4])] = &[
 fn accepted_runs(rt: HostRuntime) -> Result<(), Fail> {
     for (text, vertices, edges) in ACCEPTED_TEXTS {
         let after = with_held(path_levels(*vertices, *edges), zeros());
-        assert_eq!(rt; run(text, Short::None)?, (ACCEPTED, after));
+        assert_eq!(rt; run(text, None)?, (ACCEPTED, after));
     }
     Ok(())
 }
@@ -309,14 +315,14 @@ fn place_holds(rt: &impl Abort, place: &Recipe, text: &[u8]) -> Result<(), Fail>
 #[test]
 fn recipe_place(rt: HostRuntime) -> Result<(), Fail> {
     let mut place = Recipe::empty();
-    let run = [(Call::Run, Short::None)];
+    let run = [(Call::Run, None)];
     let (answers, _) = on_path(run, b"D1  H E1 M", b"", &mut place)?;
     assert_eq!(rt; answers, [ACCEPTED]);
     place_holds(&rt, &place, b"D1 H E1 M")?;
     let refusals = [
-        (Call::Run, Short::None),
-        (Call::RunOther, Short::HeldEdges),
-        (Call::Step(o(1)), Short::None),
+        (Call::Run, None),
+        (Call::RunOther, Some(Short::HeldEdges)),
+        (Call::Step(filter(Family::Opening, 1)), None),
     ];
     let (answers, _) = on_path(refusals, b"O3 4 C2", b"C1", &mut place)?;
     assert_eq!(rt;
@@ -330,29 +336,25 @@ fn recipe_place(rt: HostRuntime) -> Result<(), Fail> {
     Ok(())
 }
 
-fn cut_each<const N: usize>(cut: LevelCut, weights: [Level; N]) -> [Presence; N] {
-    let mut images = [Presence::Absent; N];
-    for (i, weight) in weights.iter().enumerate() {
-        images[i] = cut.read(*weight);
+fn cut_pair(cut: LevelCut, weights: Pair<Level>) -> Pair<Presence> {
+    Pair {
+        vertices: weights.vertices.map(|weight| cut.read(weight)),
+        edges: weights.edges.map(|weight| cut.read(weight)),
     }
-    images
 }
 
 fn cut_all(cut: LevelCut, buffers: Buffers<Level>) -> Buffers<Presence> {
     Buffers {
-        vertices: cut_each(cut, buffers.vertices),
-        edges: cut_each(cut, buffers.edges),
-        vertex_scratch: cut_each(cut, buffers.vertex_scratch),
-        edge_scratch: cut_each(cut, buffers.edge_scratch),
-        held_vertices: cut_each(cut, buffers.held_vertices),
-        held_edges: cut_each(cut, buffers.held_edges),
+        weights: cut_pair(cut, buffers.weights),
+        scratch: cut_pair(cut, buffers.scratch),
+        held: cut_pair(cut, buffers.held),
     }
 }
 
 // Checks that a story answers alike on the path sheet and on its cut at 5, and that each buffer stays the cut of the other.
 fn commutes(
     rt: &impl Abort,
-    story: [(Call, Short); 8],
+    story: [(Call, Option<Short>); 8],
     text: &[u8],
     other_text: &[u8],
 ) -> Result<(), Fail> {
@@ -370,23 +372,23 @@ fn commutes(
         &mut cut_place,
     )?;
     assert_eq!(rt; answers, cut_answers);
-    for i in 0..8 {
-        assert_eq!(rt; cut_all(cut, after[i]), cut_after[i]);
+    for (buffers, cut_buffers) in after.iter().zip(cut_after.iter()) {
+        assert_eq!(rt; cut_all(cut, *buffers), *cut_buffers);
     }
     assert_eq!(rt; place.words().len(), cut_place.words().len());
     Ok(())
 }
 
-fn worked_story() -> [(Call, Short); 8] {
+fn worked_story() -> [(Call, Option<Short>); 8] {
     [
-        (Call::Hold, Short::HeldEdges),
-        (Call::Hold, Short::None),
-        (Call::Step(o(1)), Short::None),
-        (Call::Step(e(201)), Short::None),
-        (Call::Step(d(1)), Short::None),
-        (Call::Meet, Short::None),
-        (Call::Run, Short::None),
-        (Call::RunOther, Short::None),
+        (Call::Hold, Some(Short::HeldEdges)),
+        (Call::Hold, None),
+        (Call::Step(filter(Family::Opening, 1)), None),
+        (Call::Step(filter(Family::Erosion, 201)), None),
+        (Call::Step(filter(Family::Dilation, 1)), None),
+        (Call::Meet, None),
+        (Call::Run, None),
+        (Call::RunOther, None),
     ]
 }
 
@@ -432,27 +434,30 @@ fn story_of_levels(rt: HostRuntime) -> Result<(), Fail> {
 fn stories_commute_with_cuts(rt: HostRuntime) -> Result<(), Fail> {
     commutes(&rt, worked_story(), b"O3 4 C2", b"C1")?;
     let story = [
-        (Call::Step(d(0)), Short::None),
-        (Call::Run, Short::None),
-        (Call::Hold, Short::None),
-        (Call::Step(e(1)), Short::EdgeScratch),
-        (Call::Step(e(1)), Short::None),
-        (Call::Join, Short::Vertices),
-        (Call::Join, Short::None),
-        (Call::RunOther, Short::VertexScratch),
+        (Call::Step(filter(Family::Dilation, 0)), None),
+        (Call::Run, None),
+        (Call::Hold, None),
+        (
+            Call::Step(filter(Family::Erosion, 1)),
+            Some(Short::EdgeScratch),
+        ),
+        (Call::Step(filter(Family::Erosion, 1)), None),
+        (Call::Join, Some(Short::Vertices)),
+        (Call::Join, None),
+        (Call::RunOther, Some(Short::VertexScratch)),
     ];
     commutes(&rt, story, b"D1 H E1 M", b"A2")
 }
 
-fn opening_story() -> [(Call, Short); 7] {
+fn opening_story() -> [(Call, Option<Short>); 7] {
     [
-        (Call::Step(o(1)), Short::None),
-        (Call::Hold, Short::None),
-        (Call::Step(o(201)), Short::None),
-        (Call::Forget, Short::Vertices),
-        (Call::Forget, Short::None),
-        (Call::Run, Short::None),
-        (Call::RunOther, Short::None),
+        (Call::Step(filter(Family::Opening, 1)), None),
+        (Call::Hold, None),
+        (Call::Step(filter(Family::Opening, 201)), None),
+        (Call::Forget, Some(Short::Vertices)),
+        (Call::Forget, None),
+        (Call::Run, None),
+        (Call::RunOther, None),
     ]
 }
 
@@ -471,6 +476,6 @@ fn openings_of_a_story_absorb(rt: HostRuntime) -> Result<(), Fail> {
         left,
         with_held(path_levels([2, 2, 2, 2, 1], [2, 2, 2, 1]), zeros())
     );
-    assert_eq!(rt; run(b"O2", Short::None)?, (ACCEPTED, left));
+    assert_eq!(rt; run(b"O2", None)?, (ACCEPTED, left));
     Ok(())
 }

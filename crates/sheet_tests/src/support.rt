@@ -1,29 +1,12 @@
-// What the tests share: filters by their letters, weights by their numbers, and refusals by what they say.
+// What the tests share: filters by family and size, weights by their numbers, and refusals by what they say.
 
 use filters::{Family, Filter};
 use graph::{Edge, Graph, judge};
 use lattice::{Level, Presence};
 use refusal::{Part, Refusal};
 
-pub(crate) fn d(size: u32) -> Filter {
-    Filter {
-        family: Family::Dilation,
-        size,
-    }
-}
-
-pub(crate) fn e(size: u32) -> Filter {
-    Filter {
-        family: Family::Erosion,
-        size,
-    }
-}
-
-pub(crate) fn o(size: u32) -> Filter {
-    Filter {
-        family: Family::Opening,
-        size,
-    }
+pub(crate) fn filter(family: Family, size: u32) -> Filter {
+    Filter { family, size }
 }
 
 // The graph of these rows, or the empty one where they are refused.
@@ -35,17 +18,17 @@ pub(crate) fn graph_of<'a>(n: usize, rows: &'a [Edge]) -> Graph<'a> {
 
 pub(crate) fn levels<const N: usize>(values: [u16; N]) -> [Level; N] {
     let mut weights = [Level::new(0); N];
-    for (i, value) in values.iter().enumerate() {
-        weights[i] = Level::new(*value);
+    for (weight, value) in weights.iter_mut().zip(values.iter()) {
+        *weight = Level::new(*value);
     }
     weights
 }
 
 pub(crate) fn presences<const N: usize>(values: [u8; N]) -> [Presence; N] {
     let mut weights = [Presence::Absent; N];
-    for (i, value) in values.iter().enumerate() {
+    for (weight, value) in weights.iter_mut().zip(values.iter()) {
         if *value == 1 {
-            weights[i] = Presence::Present;
+            *weight = Presence::Present;
         }
     }
     weights
@@ -61,20 +44,24 @@ pub(crate) fn path_presences(vertices: [u8; 5], edges: [u8; 4]) -> ([Presence; 5
     (presences(vertices), presences(edges))
 }
 
-// The number, the place and the part of an answer: a 0 and no part where the call is accepted.
-pub const ACCEPTED: (u8, usize, Option<Part>) = (0, 0, None);
-
-pub(crate) fn refused(number: u8, place: usize, part: Part) -> (u8, usize, Option<Part>) {
-    (number, place, Some(part))
+// Why a call is not accepted.
+#[derive(Clone, Copy, PartialEq, Debug)]
+pub enum Why {
+    // The state does not take the call.
+    NotTaken,
+    // The number, the place and the part of a refusal.
+    Refused(u8, usize, Part),
 }
 
-pub(crate) fn report(refusal: Refusal) -> (u8, usize, Option<Part>) {
-    (refusal.number(), refusal.place(), Some(refusal.part()))
+// What a call answers.
+pub type Answer = Result<(), Why>;
+
+pub const ACCEPTED: Answer = Ok(());
+
+pub(crate) fn refused(number: u8, place: usize, part: Part) -> Answer {
+    Err(Why::Refused(number, place, part))
 }
 
-pub(crate) fn outcome(answer: Result<(), Refusal>) -> (u8, usize, Option<Part>) {
-    match answer {
-        Ok(()) => ACCEPTED,
-        Err(refusal) => report(refusal),
-    }
+pub(crate) fn report(refusal: Refusal) -> Why {
+    Why::Refused(refusal.number(), refusal.place(), refusal.part())
 }

@@ -1,6 +1,6 @@
 -- What a call answers depends on no weight, and what it makes of a sheet is a function of the sheet. Assumes nothing.
 use Rattle.std.proofs.Common.{◌≡◌, ℕ, Bool, true, false, cond, ◌&&◌, List, sym, refl, ap, ◌∙◌, subst, ap₂, subst₂}
-use mathlib.Core.Bool.{false≢true}
+use Rattle.std.proofs.lemmas.Bool.{and_parts}
 use Rattle.refusal.specs.Reports.{Answer, accepted, refused, Verdict, by_verdict}
 use Rattle.refusal.specs.declared.Part.{Part}
 use Rattle.lattice.specs.Lattices.{Operations}
@@ -52,10 +52,6 @@ module _ {K : Type 0} (g : Shape) (p : Lengths) (w : Weighting K) where
   given : {X : Type 0} (m : Bool) (x y : X) → m ≡ true → cond m x y ≡ x
   given m x y e = ap (λ b. cond b x y) e
 
-  both_true : (m n : Bool) → (m && n) ≡ true → (m ≡ true) × (n ≡ true)
-  both_true true n e = (refl, e)
-  both_true false n e = absurd (false≢true e)
-
   -- buffers that a call leaves as they were
   restored_same : (b : Weighting K) → PassedFor g w p b → restored g p w b ≡ w
   restored_same b passed = ap₂ weighting (kept_or (vertices_suit g p) _ _ passed.same_vertices) (kept_or (edges_suit g p) _ _ passed.same_edges)
@@ -63,12 +59,12 @@ module _ {K : Type 0} (g : Shape) (p : Lengths) (w : Weighting K) where
   module _ (fit : suit g p ≡ true) where
     restored_given : (v : Weighting K) → restored g p w v ≡ v
     restored_given v =
-        let both = both_true (vertices_suit g p) (edges_suit g p) fit in
+        let both = and_parts (vertices_suit g p) (edges_suit g p) fit in
         ap₂ weighting (given (vertices_suit g p) _ _ both.0) (given (edges_suit g p) _ _ both.1)
 
     passed_same : (b : Weighting K) → PassedFor g w p b → b ≡ w
     passed_same b passed =
-        let both = both_true (vertices_suit g p) (edges_suit g p) fit in
+        let both = and_parts (vertices_suit g p) (edges_suit g p) fit in
         ap₂ weighting (passed.same_vertices both.0) (passed.same_edges both.1)
 
 module _ {K : Type 0} (after : Outcome Verdict K → State K) (old new : State K) where

@@ -40,7 +40,7 @@ both_suit : (g : Shape) → (suit g (asked g) && suit g (asked g)) ≡ true
 both_suit g = ap₂ ◌&&◌ (asked_suit g) (asked_suit g)
 
 -- what is held, by the turn
-abbrev held_in : {K : Type 0} → Turn → Weighting K → HeldWeights K
+abbrev pub held_in : {K : Type 0} → Turn → Weighting K → HeldWeights K
 held_in Free h = nothing
 held_in Held h = something h
 

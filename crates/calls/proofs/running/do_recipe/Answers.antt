@@ -1,14 +1,15 @@
 use Rattle.std.proofs.Common.{ap, ◌∙◌}
 use Rattle.graph.specs.Shapes.{shape_of}
-use Rattle.calls.proofs.HeldBuffer.{recipe_done, blank_same}
+use Rattle.calls.proofs.Doing.{size_at, words_all}
+use Rattle.calls.proofs.HeldBuffer.{recipe_done}
 use Rattle.calls.proofs.running.do_recipe.Goals as goal
 
-pub returns : goal.returns
-returns g c =
+pub do_word-requires-clause-size : goal.do_word-requires-clause-size
+do_word-requires-clause-size g c = size_at c.args.words.now c.loop-i.i _ c.loop-i-test.true c.requires.legal.sizes
+
+pub returns-clause-weights : goal.returns-clause-weights
+returns-clause-weights g c =
     let k = g.K.Kind.operations in
     let graph = shape_of c.args.graph.now in
-    record {
-      weights = ap (λ p. p.weights) c.do_words.ensures ∙ recipe_done k graph c.args.words.now _ _ c.requires.legal;
-      scratch = c.make_lowest.ensures ∙ blank_same k graph _ _ _ _ c.do_words.auto.vertex_scratch c.do_words.auto.edge_scratch;
-      held = c.make_lowest-2.ensures ∙ blank_same k graph _ _ _ _ c.do_words.auto.held_vertices c.do_words.auto.held_edges;
-    }
+    ap (λ p. p.weights) (words_all k graph c.args.words.now c.loop-i.i _ _ c.loop-i-test.false c.loop-i.invariant)
+    ∙ recipe_done k graph c.args.words.now _ _ c.requires.legal

@@ -2,7 +2,7 @@ use Rattle.std.proofs.Common.{◌≡◌, drop}
 use Rattle.graph.specs.Shapes.{shape_of}
 use Rattle.filters.specs.Weightings.{weighting}
 use Rattle.stories.specs.Words.{pair, words_done}
-use Rattle.calls.proofs.running.do_words.Given as goal
+use Rattle.calls.proofs.running.do_recipe.Given as goal
 
 -- what is left of the words decides
 abbrev pub invariant-loop-i : goal.invariant-loop-i
