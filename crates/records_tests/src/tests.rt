@@ -3,6 +3,7 @@ use graph::{Edge, Graph, judge};
 use lattice::*;
 use records::{load, store};
 use refusal::{Part, Refusal};
+use std::process::Abort;
 
 /// What a call answers: a refusal by its number, its place and its part.
 type Outcome = Result<(), (u8, usize, Part)>;
@@ -20,6 +21,13 @@ fn refused(number: u8, place: usize) -> Outcome {
 
 fn edge(first: u32, second: u32) -> Edge {
     Edge { first, second }
+}
+
+/// The graph of these rows, which has to be accepted.
+fn graph_of<'a>(rt: &impl Abort, n: usize, rows: &'a [Edge]) -> Graph<'a> {
+    let mut graph = Graph::empty();
+    assert!(rt; judge(&mut graph, n, rows).is_ok());
+    graph
 }
 
 /// What loading these records answers.
@@ -67,8 +75,7 @@ fn reversed(value: u16) -> Reversed<Level> {
 #[test]
 fn levels_with_their_edges(rt: HostRuntime) {
     let rows = [edge(0, 1), edge(1, 2)];
-    let mut graph = Graph::empty();
-    assert!(rt; judge(&mut graph, 3, &rows).is_ok());
+    let graph = graph_of(&rt, 3, &rows);
     let mut vertices = [level(0); 3];
     let mut edges = [level(0); 2];
     // 258 is 2 and 1, the low byte first.
@@ -91,8 +98,7 @@ fn levels_with_their_edges(rt: HostRuntime) {
 #[test]
 fn absent_edges_are_met(rt: HostRuntime) {
     let rows = [edge(0, 1), edge(1, 2)];
-    let mut graph = Graph::empty();
-    assert!(rt; judge(&mut graph, 3, &rows).is_ok());
+    let graph = graph_of(&rt, 3, &rows);
     let mut vertices = [level(9); 3];
     let mut edges = [level(9); 2];
     let vertex_records = [4, 0, 7, 0, 6, 0];
@@ -108,8 +114,7 @@ fn absent_edges_are_met(rt: HostRuntime) {
 #[test]
 fn empty_edge_records_are_too_short(rt: HostRuntime) {
     let rows = [edge(0, 1)];
-    let mut graph = Graph::empty();
-    assert!(rt; judge(&mut graph, 2, &rows).is_ok());
+    let graph = graph_of(&rt, 2, &rows);
     let mut vertices = [level(9); 2];
     let mut edges = [level(9); 1];
     assert_eq!(rt;
@@ -122,8 +127,7 @@ fn empty_edge_records_are_too_short(rt: HostRuntime) {
 
 #[test]
 fn two_levels_in_five_bytes(rt: HostRuntime) {
-    let mut graph = Graph::empty();
-    assert!(rt; judge(&mut graph, 2, &[]).is_ok());
+    let graph = graph_of(&rt, 2, &[]);
     let mut vertices = [level(9); 2];
     let none: &mut [Level] = &mut [];
     assert_eq!(rt;
@@ -140,8 +144,7 @@ fn two_levels_in_five_bytes(rt: HostRuntime) {
 
 #[test]
 fn two_vertices_in_three_places(rt: HostRuntime) {
-    let mut graph = Graph::empty();
-    assert!(rt; judge(&mut graph, 2, &[]).is_ok());
+    let graph = graph_of(&rt, 2, &[]);
     let mut vertices = [level(9); 3];
     let none: &mut [Level] = &mut [];
     assert_eq!(rt;
@@ -161,8 +164,7 @@ fn two_vertices_in_three_places(rt: HostRuntime) {
 // A weight buffer of the wrong length comes before a byte buffer of the wrong length and before a record that is no value.
 #[test]
 fn weight_buffers_come_first(rt: HostRuntime) {
-    let mut graph = Graph::empty();
-    assert!(rt; judge(&mut graph, 2, &[]).is_ok());
+    let graph = graph_of(&rt, 2, &[]);
     let mut vertices = [Presence::Absent; 3];
     let none: &mut [Presence] = &mut [];
     assert_eq!(rt;
@@ -179,8 +181,7 @@ fn weight_buffers_come_first(rt: HostRuntime) {
 #[test]
 fn lengths_come_before_records(rt: HostRuntime) {
     let rows = [edge(0, 1)];
-    let mut graph = Graph::empty();
-    assert!(rt; judge(&mut graph, 2, &rows).is_ok());
+    let graph = graph_of(&rt, 2, &rows);
     let mut vertices = [Presence::Absent; 2];
     let mut edges = [Presence::Absent; 1];
     assert_eq!(rt;
@@ -192,8 +193,7 @@ fn lengths_come_before_records(rt: HostRuntime) {
 #[test]
 fn a_byte_that_is_no_presence(rt: HostRuntime) {
     let rows = [edge(0, 1), edge(1, 2)];
-    let mut graph = Graph::empty();
-    assert!(rt; judge(&mut graph, 3, &rows).is_ok());
+    let graph = graph_of(&rt, 3, &rows);
     let mut vertices = [Presence::Present; 3];
     let mut edges = [Presence::Present; 2];
     // A vertex: its own place.
@@ -213,8 +213,7 @@ fn a_byte_that_is_no_presence(rt: HostRuntime) {
 #[test]
 fn an_edge_above_an_end(rt: HostRuntime) {
     let rows = [edge(0, 1)];
-    let mut graph = Graph::empty();
-    assert!(rt; judge(&mut graph, 2, &rows).is_ok());
+    let graph = graph_of(&rt, 2, &rows);
     let mut vertices = [level(9); 2];
     let mut edges = [level(9); 1];
     // Above its first end, and above its second.
@@ -257,8 +256,7 @@ fn an_edge_above_an_end(rt: HostRuntime) {
 #[test]
 fn edges_are_judged_singly(rt: HostRuntime) {
     let rows = [edge(0, 1), edge(1, 2)];
-    let mut graph = Graph::empty();
-    assert!(rt; judge(&mut graph, 3, &rows).is_ok());
+    let graph = graph_of(&rt, 3, &rows);
     let mut vertices = [Presence::Absent; 3];
     let mut edges = [Presence::Absent; 2];
     assert_eq!(rt;
@@ -280,8 +278,7 @@ fn edges_are_judged_singly(rt: HostRuntime) {
 #[test]
 fn vertices_come_before_edges(rt: HostRuntime) {
     let rows = [edge(0, 1)];
-    let mut graph = Graph::empty();
-    assert!(rt; judge(&mut graph, 3, &rows).is_ok());
+    let graph = graph_of(&rt, 3, &rows);
     let mut vertices = [Presence::Absent; 3];
     let mut edges = [Presence::Absent; 1];
     assert_eq!(rt;
@@ -298,8 +295,7 @@ fn vertices_come_before_edges(rt: HostRuntime) {
 #[test]
 fn reversed_levels(rt: HostRuntime) {
     let rows = [edge(0, 1)];
-    let mut graph = Graph::empty();
-    assert!(rt; judge(&mut graph, 2, &rows).is_ok());
+    let graph = graph_of(&rt, 2, &rows);
     let mut vertices = [reversed(9); 2];
     let mut edges = [reversed(9); 1];
     assert_eq!(rt;
@@ -335,8 +331,7 @@ fn reversed_levels(rt: HostRuntime) {
 #[test]
 fn class_sets(rt: HostRuntime) {
     let rows = [edge(0, 1)];
-    let mut graph = Graph::empty();
-    assert!(rt; judge(&mut graph, 2, &rows).is_ok());
+    let graph = graph_of(&rt, 2, &rows);
     let mut vertices = [Classes::from_bits(0); 2];
     let mut edges = [Classes::from_bits(0); 1];
     let vertex_records = [3, 0, 0, 128, 6, 0, 0, 128];
@@ -396,8 +391,7 @@ fn the_empty_graph(rt: HostRuntime) {
 #[test]
 fn what_is_stored_loads_back(rt: HostRuntime) {
     let rows = [edge(0, 1), edge(1, 2)];
-    let mut graph = Graph::empty();
-    assert!(rt; judge(&mut graph, 3, &rows).is_ok());
+    let graph = graph_of(&rt, 3, &rows);
     let vertices = [level(4), level(258), level(65535)];
     let edges = [level(0), level(257)];
     let mut vertex_records = [9; 6];
@@ -434,8 +428,7 @@ fn what_is_stored_loads_back(rt: HostRuntime) {
 #[test]
 fn a_store_judges_no_order(rt: HostRuntime) {
     let rows = [edge(0, 1)];
-    let mut graph = Graph::empty();
-    assert!(rt; judge(&mut graph, 2, &rows).is_ok());
+    let graph = graph_of(&rt, 2, &rows);
     let vertices = [Presence::Absent, Presence::Present];
     let edges = [Presence::Present];
     let mut vertex_records = [9; 2];
@@ -457,8 +450,7 @@ fn a_store_judges_no_order(rt: HostRuntime) {
 #[test]
 fn a_refused_store_changes_no_byte(rt: HostRuntime) {
     let rows = [edge(0, 1)];
-    let mut graph = Graph::empty();
-    assert!(rt; judge(&mut graph, 2, &rows).is_ok());
+    let graph = graph_of(&rt, 2, &rows);
     let two = [level(1); 2];
     let one = [level(1); 1];
     let mut four_bytes = [9; 4];
