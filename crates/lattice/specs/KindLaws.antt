@@ -1,6 +1,7 @@
 -- The laws of presences, levels and class sets. Assumes nothing.
 use Rattle.std.proofs.Common.{rules, ⊎_elim, sym, ◌∙◌}
 use Rattle.std.specs.Prelude.{Decides}
+use Rattle.std.specs.Cmp.{both_ways}
 use Rattle.std.proofs.lemmas.Bool.{eqb-true, eq-eqb, and_from, and_parts, or_cases, or_left, or_right, false≢true}
 use Rattle.lattice.specs.ClassSets.{classes_below, classes_leq, classes_operations}
 use Rattle.lattice.specs.Lattices.{Lattice}
@@ -8,7 +9,7 @@ use Rattle.lattice.specs.Levels.{level_below, level_operations}
 use Rattle.lattice.specs.Presences.{presence_below, presence_operations}
 use Rattle.lattice.specs.declared.class_sets.Classes.{Classes}
 use Rattle.lattice.specs.SameValues.{same_level, same_classes}
-use Rattle.lattice.specs.SetBits.{in_union, in_intersection, is_in_none, is_in_all, same_set, same_test, included_from_and, and_from_included}
+use Rattle.lattice.specs.SetBits.{in_union, in_intersection, is_in_none, is_in_all, same_set, included_from_and, and_from_included}
 
 pub presence_lattice : Lattice presence_below presence_operations
 presence_lattice = search rules
@@ -21,7 +22,7 @@ classes_lattice = record {
   order = record {
     reflexive = λ x k h i. i;
     transitive = λ x y z f g k h i. g k h (f k h i);
-    antisymmetric = λ x y f g. same_classes x y (same_set x.bits y.bits x.fits y.fits (λ k h. same_test _ _ (f k h) (g k h)));
+    antisymmetric = λ x y f g. same_classes x y (same_set x.bits y.bits x.fits y.fits (λ k h. both_ways _ _ (f k h) (g k h)));
   };
   lowest_below = λ x k h i. absurd (false≢true (sym (is_in_none k) ∙ i));
   below_highest = λ x k h i. is_in_all k h;

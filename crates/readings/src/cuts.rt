@@ -16,7 +16,7 @@ use refusal::Refusal;
 use std::alloc::AllocError;
 
 /// A cut of a chain, at a threshold above the lowest value.
-#[derive_where(Copy)]
+#[derive(Copy)]
 pub struct ChainCut<C: Chain> {
     threshold: C,
     ghost raised: { threshold ≢ C.Kind.operations.lowest },

@@ -1,7 +1,7 @@
 //! Readings: maps from one kind of weight to another that keep the ends, joins and meets.
 //!
-//! The cuts of the chains ([`ChainCut`], with [`PresenceCut`], [`LevelCut`] and [`ReversedLevelCut`]) and the class pick ([`ClassPick`]) are readings
-//! ([`Reading`]) to presences.
+//! The cuts of the chains ([`ChainCut`], with the names [`PresenceCut`], [`LevelCut`] and [`ReversedLevelCut`]) and the class pick
+//! ([`ClassPick`]) are readings ([`Reading`]) to presences.
 
 #![tactic(auto)]
 
