@@ -1,4 +1,4 @@
--- What is done over and over to the weights that are worked on. Assumes nothing.
+-- Passes one after the other, and what is done over and over to the weights that are worked on. Assumes nothing.
 use Rattle.std.proofs.Common.{◌≡◌, ℕ, zero, suc, ◌+◌, ◌≤◌, List, refl, ap, ◌∙◌, ap₂, add-one, arith}
 use Rattle.lattice.specs.Lattices.{Operations}
 use Rattle.graph.specs.Shapes.{Shape, shape_of}
@@ -6,6 +6,11 @@ use Rattle.filters.specs.Filters.{repeat, opened, closed, alternated}
 use Rattle.filters.specs.Weightings.{vertex_rounds, edge_rounds}
 use Rattle.filters.specs.Works.{Changes, ChangesByFilter}
 use Rattle.filters.specs.declared.rounds.Work.{Work}
+
+-- a way from one list over another and back, by two passes that name the graph by what they were handed
+pub over_and_back : {X Y Z G : Type 0} (over : G → X → Y) (back : G → Y → Z) (g first second : G) (x : X) (y : Y) (z : Z) → first ≡ g → second ≡ g
+    → y ≡ over first x → z ≡ back second y → z ≡ back g (over g x)
+over_and_back over back g first second x y z f s went came = came ∙ ap₂ back s (went ∙ ap (λ h. over h x) f)
 
 module _ {K : Type 0} (start : Work K) where
   -- one change, and then another

@@ -5,12 +5,13 @@ ghost use Rattle.graph.specs.Graphs.{AllWithin};
 ghost use Rattle.graph.specs.Shapes.{shape};
 ghost use Rattle.filters.specs.Passes.{pass_to_edges, pass_to_vertices};
 
-use crate::passes::fill;
+use crate::passes::{combine_into_ends, fill};
 use crate::sides::Semilattice;
 use graph::{Edge, Graph};
 
 /// Gives each edge the weights at its ends, combined, while each receiving vertex gets the old weights of the edges at it,
-/// combined: one sweep over the edges, in place. The ends of an edge differ, so both are read before either is written.
+/// combined: one sweep over the edges, in place.
+#[inline(never)]
 fn exchange<S: Semilattice<K>, K: Copy>(
     table: &[Edge],
     giving: &[K],
@@ -24,15 +25,11 @@ fn exchange<S: Semilattice<K>, K: Copy>(
     ensures vertices { receiving.new ≡ pass_to_vertices S.side (shape (length giving.now) table.now) edges.old }
 {
     fill(receiving, S::neutral());
-    for (i, e) in table.iter().enumerate() {
+    // Kept with an index, since nothing is known of what a zip with `iter_mut` has written.
+    for (i, &e) in table.iter().enumerate() {
         let weight = edges[i];
-        let first = e.first as usize;
-        let second = e.second as usize;
-        edges[i] = S::combine(giving[first], giving[second]);
-        let at_first = receiving[first];
-        let at_second = receiving[second];
-        receiving[first] = S::combine(at_first, weight);
-        receiving[second] = S::combine(at_second, weight);
+        edges[i] = S::combine(giving[e.first as usize], giving[e.second as usize]);
+        combine_into_ends::<S, K>(e, weight, receiving);
     }
 }
 

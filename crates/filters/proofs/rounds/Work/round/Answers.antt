@@ -1,7 +1,7 @@
 use Rattle.std.proofs.Common.{◌≡◌, length, refl, ap₂, rules}
 use Rattle.graph.specs.Shapes.{shape, shape_of}
 use Rattle.filters.specs.Passes.{pass_to_edges, pass_to_vertices}
-use Rattle.filters.proofs.Exchanges.{over_and_back}
+use Rattle.filters.proofs.Loops.{over_and_back}
 use Rattle.filters.proofs.rounds.Work.round.Goals as goal
 
 pub returns : goal.returns
