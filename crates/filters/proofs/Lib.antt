@@ -1,4 +1,2 @@
-pub mod Gathers
 pub mod Scatters
-pub mod Exchanges
 pub mod Loops

@@ -43,13 +43,17 @@ dilated r n x = repeat r.dilation n x
 abbrev pub eroded : {X : Type 0} → Rounds X → ℕ → X → X
 eroded r n x = repeat r.erosion n x
 
+-- half of n rounds by first, one by middle where n is odd, and as many as at first by last
+abbrev pub halves : {X : Type 0} → (X → X) → (X → X) → (X → X) → ℕ → X → X
+halves first middle last n x = repeat last (n / 2) (repeat middle (n % 2) (repeat first (n / 2) x))
+
 -- half of n erosion rounds, a half opening where n is odd, and as many dilation rounds
 abbrev pub opened : {X : Type 0} → Rounds X → ℕ → X → X
-opened r n x = repeat r.dilation (n / 2) (repeat r.half_opening (n % 2) (repeat r.erosion (n / 2) x))
+opened r n x = halves r.erosion r.half_opening r.dilation n x
 
 -- half of n dilation rounds, a half closing where n is odd, and as many erosion rounds
 abbrev pub closed : {X : Type 0} → Rounds X → ℕ → X → X
-closed r n x = repeat r.erosion (n / 2) (repeat r.half_closing (n % 2) (repeat r.dilation (n / 2) x))
+closed r n x = halves r.dilation r.half_closing r.erosion n x
 
 -- the closings φ and openings γ of sizes 1 to n in turn, each closing first
 abbrev pub alternating : {X : Type 0} → (ℕ → X → X) → (ℕ → X → X) → ℕ → X → X

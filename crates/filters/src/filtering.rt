@@ -1,108 +1,79 @@
 //! The filters, from rounds.
 
-ghost use Rattle.std.specs.Prelude.{◌≡◌, ◌≤◌, length};
+ghost use Rattle.std.specs.Prelude.{◌≡◌};
 ghost use Rattle.graph.specs.Shapes.{shape_of};
 ghost use Rattle.refusal.specs.Reports.{answer};
-ghost use Rattle.filters.specs.Filters.{opened, closed, alternated, filter_by};
-ghost use Rattle.filters.specs.Weightings.{vertex_rounds, edge_rounds, weights_before, weights_after};
+ghost use Rattle.filters.specs.Filters.{halves, opened, closed, alternated, filter_by};
+ghost use Rattle.filters.specs.Weightings.{weights_before, weights_after};
 ghost use Rattle.filters.specs.Calls.{outcome, filter_call};
+ghost use Rattle.filters.specs.Works.{ChangesByRounds, ChangesByFilter};
 
 use crate::families::{Family, Filter};
 use crate::fitting::both_fit;
 use crate::passes::fill;
-use crate::rounds::rounds;
-use crate::sides::{Joins, Meets};
+use crate::rounds::Work;
+use crate::sides::{Joins, Meets, Semilattice};
 use crate::weights::WeightsMut;
 use graph::Graph;
 use lattice::Kind;
 use refusal::Refusal;
 
-/// The opening of a size.
-fn open<K: Kind>(size: u32, graph: &Graph, vertices: &mut [K], edges: &mut [K], scratch: &mut [K])
-    requires vertices { length vertices.old ≡ graph.now.n }
-    requires edges { length edges.old ≡ length graph.now.edges.now }
-    requires scratch { length scratch.old ≡ graph.now.n }
-    ensures vertices { vertices.new ≡ opened (vertex_rounds K.operations (shape_of graph.now)) size vertices.old }
-    ensures edges { edges.new ≡ opened (edge_rounds K.operations (shape_of graph.now)) size edges.old }
-{
-    rounds::<Meets, Meets, K>(size / 2, graph, vertices, edges, scratch);
-    rounds::<Meets, Joins, K>(size % 2, graph, vertices, edges, scratch);
-    rounds::<Joins, Joins, K>(size / 2, graph, vertices, edges, scratch);
-}
-
-/// The closing of a size.
-fn close<K: Kind>(size: u32, graph: &Graph, vertices: &mut [K], edges: &mut [K], scratch: &mut [K])
-    requires vertices { length vertices.old ≡ graph.now.n }
-    requires edges { length edges.old ≡ length graph.now.edges.now }
-    requires scratch { length scratch.old ≡ graph.now.n }
-    ensures vertices { vertices.new ≡ closed (vertex_rounds K.operations (shape_of graph.now)) size vertices.old }
-    ensures edges { edges.new ≡ closed (edge_rounds K.operations (shape_of graph.now)) size edges.old }
-{
-    rounds::<Joins, Joins, K>(size / 2, graph, vertices, edges, scratch);
-    rounds::<Joins, Meets, K>(size % 2, graph, vertices, edges, scratch);
-    rounds::<Meets, Meets, K>(size / 2, graph, vertices, edges, scratch);
-}
-
-/// The closing of a size, and then the opening.
-fn close_and_open<K: Kind>(
-    size: u32,
-    graph: &Graph,
-    vertices: &mut [K],
-    edges: &mut [K],
-    scratch: &mut [K],
-)
-    requires vertices { length vertices.old ≡ graph.now.n }
-    requires edges { length edges.old ≡ length graph.now.edges.now }
-    requires scratch { length scratch.old ≡ graph.now.n }
-    ensures vertices { vertices.new ≡ opened (vertex_rounds K.operations (shape_of graph.now)) size (closed (vertex_rounds K.operations (shape_of graph.now)) size vertices.old) }
-    ensures edges { edges.new ≡ opened (edge_rounds K.operations (shape_of graph.now)) size (closed (edge_rounds K.operations (shape_of graph.now)) size edges.old) }
-{
-    close(size, graph, vertices, edges, scratch);
-    open(size, graph, vertices, edges, scratch);
-}
-
-/// The alternate filter of a size: closings and openings of the sizes up to it, in turn.
-fn alternate<K: Kind>(
-    size: u32,
-    graph: &Graph,
-    vertices: &mut [K],
-    edges: &mut [K],
-    scratch: &mut [K],
-)
-    requires size { size ≤ 200 }
-    requires vertices { length vertices.old ≡ graph.now.n }
-    requires edges { length edges.old ≡ length graph.now.edges.now }
-    requires scratch { length scratch.old ≡ graph.now.n }
-    ensures vertices { vertices.new ≡ alternated (vertex_rounds K.operations (shape_of graph.now)) size vertices.old }
-    ensures edges { edges.new ≡ alternated (edge_rounds K.operations (shape_of graph.now)) size edges.old }
-{
-    for done in 0..size {
-        close_and_open(done + 1, graph, vertices, edges, scratch);
+impl<K: Copy> Work<'_, '_, K> {
+    /// What openings and closings of a size share: half of its rounds all by `First`, one half round where the size is odd, over by
+    /// `First` and back by `Second`, and the other half all by `Second`.
+    fn halves<First: Semilattice<K>, Second: Semilattice<K>>(&mut self, size: u32)
+        ensures { ChangesByRounds self.old self.new (λ round. halves (round First.Semilattice.side First.Semilattice.side) (round First.Semilattice.side Second.Semilattice.side) (round Second.Semilattice.side Second.Semilattice.side) size) }
+    {
+        self.rounds::<First, First>(size / 2);
+        self.rounds::<First, Second>(size % 2);
+        self.rounds::<Second, Second>(size / 2);
     }
 }
 
-/// The filter, whatever its family.
-fn transform<K: Kind>(
-    filter: Filter,
-    graph: &Graph,
-    vertices: &mut [K],
-    edges: &mut [K],
-    scratch: &mut [K],
-)
-    requires size { filter.size ≤ 200 }
-    requires vertices { length vertices.old ≡ graph.now.n }
-    requires edges { length edges.old ≡ length graph.now.edges.now }
-    requires scratch { length scratch.old ≡ graph.now.n }
-    ensures vertices { vertices.new ≡ filter_by (vertex_rounds K.operations (shape_of graph.now)) filter.family filter.size vertices.old }
-    ensures edges { edges.new ≡ filter_by (edge_rounds K.operations (shape_of graph.now)) filter.family filter.size edges.old }
-{
-    let size = filter.size;
-    match filter.family {
-        Family::Dilation => rounds::<Joins, Joins, K>(size, graph, vertices, edges, scratch),
-        Family::Erosion => rounds::<Meets, Meets, K>(size, graph, vertices, edges, scratch),
-        Family::Opening => open(size, graph, vertices, edges, scratch),
-        Family::Closing => close(size, graph, vertices, edges, scratch),
-        Family::Alternate => alternate(size, graph, vertices, edges, scratch),
+impl<K: Kind> Work<'_, '_, K> {
+    /// The opening of a size.
+    fn open(&mut self, size: u32)
+        ensures { ChangesByFilter K.operations self.old self.new (λ r. opened r size) }
+    {
+        self.halves::<Meets, Joins>(size);
+    }
+
+    /// The closing of a size.
+    fn close(&mut self, size: u32)
+        ensures { ChangesByFilter K.operations self.old self.new (λ r. closed r size) }
+    {
+        self.halves::<Joins, Meets>(size);
+    }
+
+    /// The closing of a size, and then the opening.
+    fn close_and_open(&mut self, size: u32)
+        ensures { ChangesByFilter K.operations self.old self.new (λ r w. opened r size (closed r size w)) }
+    {
+        self.close(size);
+        self.open(size);
+    }
+
+    /// The alternate filter of a size: closings and openings of the sizes up to it, in turn.
+    fn alternate(&mut self, size: u32)
+        ensures { ChangesByFilter K.operations self.old self.new (λ r. alternated r size) }
+    {
+        for s in 1..=size {
+            self.close_and_open(s);
+        }
+    }
+
+    /// The filter, whatever its family.
+    fn transform(&mut self, filter: Filter)
+        ensures { ChangesByFilter K.operations self.old self.new (λ r. filter_by r filter.family filter.size) }
+    {
+        let size = filter.size;
+        match filter.family {
+            Family::Dilation => self.rounds::<Joins, Joins>(size),
+            Family::Erosion => self.rounds::<Meets, Meets>(size),
+            Family::Opening => self.open(size),
+            Family::Closing => self.close(size),
+            Family::Alternate => self.alternate(size),
+        }
     }
 }
 
@@ -129,7 +100,13 @@ impl Filter {
         if self.size < 1 || self.size > 200 {
             return Err(Refusal::StepSize);
         }
-        transform(self, graph, vertices, edges, vertex_scratch);
+        let mut work = Work {
+            graph: *graph,
+            vertices,
+            edges,
+            scratch: vertex_scratch,
+        };
+        work.transform(self);
         fill(vertex_scratch, K::lowest());
         fill(edge_scratch, K::lowest());
         Ok(())

@@ -1,10 +1,10 @@
 //! The four passes between vertices and edges.
 
-ghost use Rattle.std.specs.Prelude.{◌≡◌, length, replicate};
+ghost use Rattle.std.specs.Prelude.{◌≡◌, ℕ, cond, length, replicate, slice_index_or};
 ghost use Rattle.refusal.specs.Reports.{answer};
-ghost use Rattle.graph.specs.Graphs.{AllWithin};
+ghost use Rattle.graph.specs.Graphs.{Within, AllWithin};
 ghost use Rattle.graph.specs.Shapes.{shape, shape_of};
-ghost use Rattle.filters.specs.Passes.{joins, meets, pass_to_edges, pass_to_vertices};
+ghost use Rattle.filters.specs.Passes.{joins, meets, touches, pass_to_edges, pass_to_vertices};
 ghost use Rattle.filters.specs.Calls.{passed, to_edges_call, to_vertices_call};
 
 use crate::fitting::fits;
@@ -17,6 +17,7 @@ use refusal::Refusal;
 pub fn fill<K: Copy>(weights: &mut [K], weight: K)
     ensures { weights.new ≡ replicate (length weights.old) weight }
 {
+    // Kept as a loop, since the `fill` of a slice asks that a clone cannot fail, which `Copy` does not say.
     for w in weights.iter_mut() {
         *w = weight;
     }
@@ -28,9 +29,24 @@ fn gather<S: Semilattice<K>, K: Copy>(table: &[Edge], vertices: &[K], edges: &mu
     requires along { length edges.old ≡ length table.now }
     ensures { edges.new ≡ pass_to_edges S.side (shape (length vertices.now) table.now) vertices.now }
 {
+    // Kept with an index, since nothing is known of what a zip with `iter_mut` has written.
     for (i, e) in table.iter().enumerate() {
         edges[i] = S::combine(vertices[e.first as usize], vertices[e.second as usize]);
     }
+}
+
+/// Combines a weight into those of both ends of an edge. The ends differ, so both are read before either is written.
+#[inline(always)]
+pub(crate) fn combine_into_ends<S: Semilattice<K>, K: Copy>(e: Edge, weight: K, vertices: &mut [K])
+    requires { Within (length vertices.old) e }
+    ensures { (v : ℕ) → slice_index_or vertices.new v S.side.neutral ≡ cond (touches e v) (S.side.combine (slice_index_or vertices.old v S.side.neutral) weight) (slice_index_or vertices.old v S.side.neutral) }
+{
+    let first = e.first as usize;
+    let second = e.second as usize;
+    let at_first = vertices[first];
+    let at_second = vertices[second];
+    vertices[first] = S::combine(at_first, weight);
+    vertices[second] = S::combine(at_second, weight);
 }
 
 /// Gives each vertex the weights of the edges at it, combined.
@@ -40,12 +56,8 @@ fn scatter<S: Semilattice<K>, K: Copy>(table: &[Edge], edges: &[K], vertices: &m
     ensures { vertices.new ≡ pass_to_vertices S.side (shape (length vertices.old) table.now) edges.now }
 {
     fill(vertices, S::neutral());
-    for (i, e) in table.iter().enumerate() {
-        let weight = edges[i];
-        let first = e.first as usize;
-        let second = e.second as usize;
-        vertices[first] = S::combine(vertices[first], weight);
-        vertices[second] = S::combine(vertices[second], weight);
+    for (e, weight) in table.iter().zip(edges) {
+        combine_into_ends::<S, K>(*e, *weight, vertices);
     }
 }
 

@@ -2,16 +2,16 @@
 
 ghost use Rattle.std.specs.Prelude.{◌≡◌, length};
 ghost use Rattle.graph.specs.Graphs.{AllWithin};
-ghost use Rattle.graph.specs.Shapes.{shape, shape_of};
-ghost use Rattle.filters.specs.Filters.{repeat};
-ghost use Rattle.filters.specs.Passes.{pass_to_edges, pass_to_vertices, vertex_round, edge_round};
+ghost use Rattle.graph.specs.Shapes.{shape};
+ghost use Rattle.filters.specs.Passes.{pass_to_edges, pass_to_vertices};
 
-use crate::passes::fill;
+use crate::passes::{combine_into_ends, fill};
 use crate::sides::Semilattice;
 use graph::{Edge, Graph};
 
 /// Gives each edge the weights at its ends, combined, while each receiving vertex gets the old weights of the edges at it,
-/// combined: one sweep over the edges, in place. The ends of an edge differ, so both are read before either is written.
+/// combined: one sweep over the edges, in place.
+#[inline(never)]
 fn exchange<S: Semilattice<K>, K: Copy>(
     table: &[Edge],
     giving: &[K],
@@ -25,52 +25,47 @@ fn exchange<S: Semilattice<K>, K: Copy>(
     ensures vertices { receiving.new ≡ pass_to_vertices S.side (shape (length giving.now) table.now) edges.old }
 {
     fill(receiving, S::neutral());
-    for (i, e) in table.iter().enumerate() {
+    // Kept with an index, since nothing is known of what a zip with `iter_mut` has written.
+    for (i, &e) in table.iter().enumerate() {
         let weight = edges[i];
-        let first = e.first as usize;
-        let second = e.second as usize;
-        edges[i] = S::combine(giving[first], giving[second]);
-        let at_first = receiving[first];
-        let at_second = receiving[second];
-        receiving[first] = S::combine(at_first, weight);
-        receiving[second] = S::combine(at_second, weight);
+        edges[i] = S::combine(giving[e.first as usize], giving[e.second as usize]);
+        combine_into_ends::<S, K>(e, weight, receiving);
     }
 }
 
-/// One round of both sorts: vertices go to the edges by `Over` and back by `Back`, and edges to the vertices by `Over` and back
-/// by `Back`. Two sweeps over the edges; scratch is for the vertices alone.
-fn round<Over: Semilattice<K>, Back: Semilattice<K>, K: Copy>(
-    graph: &Graph,
-    vertices: &mut [K],
-    edges: &mut [K],
-    scratch: &mut [K],
-)
-    requires vertices { length vertices.old ≡ graph.now.n }
-    requires edges { length edges.old ≡ length graph.now.edges.now }
-    requires scratch { length scratch.old ≡ graph.now.n }
-    ensures vertices { vertices.new ≡ vertex_round Over.Semilattice.side Back.Semilattice.side (shape_of graph.now) vertices.old }
-    ensures edges { edges.new ≡ edge_round Over.Semilattice.side Back.Semilattice.side (shape_of graph.now) edges.old }
-{
-    let table = graph.edges();
-    exchange::<Over, K>(table, vertices, edges, scratch);
-    exchange::<Back, K>(table, scratch, edges, vertices);
+/// The weights of a graph as the rounds change them, with scratch for those of the vertices.
+#[derive(Drop)]
+pub(crate) struct Work<'g, 'w, K> {
+    pub(crate) graph: Graph<'g>,
+    pub(crate) vertices: &'w mut [K],
+    pub(crate) edges: &'w mut [K],
+    pub(crate) scratch: &'w mut [K],
+    ghost vertices_fit: { length vertices.now ≡ graph.n },
+    ghost edges_fit: { length edges.now ≡ length graph.edges.now },
+    ghost scratch_fits: { length scratch.now ≡ graph.n },
 }
 
-/// So many rounds.
-pub(crate) fn rounds<Over: Semilattice<K>, Back: Semilattice<K>, K: Copy>(
-    count: u32,
-    graph: &Graph,
-    vertices: &mut [K],
-    edges: &mut [K],
-    scratch: &mut [K],
-)
-    requires vertices { length vertices.old ≡ graph.now.n }
-    requires edges { length edges.old ≡ length graph.now.edges.now }
-    requires scratch { length scratch.old ≡ graph.now.n }
-    ensures vertices { vertices.new ≡ repeat (vertex_round Over.Semilattice.side Back.Semilattice.side (shape_of graph.now)) count vertices.old }
-    ensures edges { edges.new ≡ repeat (edge_round Over.Semilattice.side Back.Semilattice.side (shape_of graph.now)) count edges.old }
-{
-    for _done in 0..count {
-        round::<Over, Back, K>(graph, vertices, edges, scratch);
+impl<K: Copy> Work<'_, '_, K> {
+    ghost use Rattle.filters.specs.Filters.{repeat};
+    ghost use Rattle.filters.specs.Works.{ChangesByRounds};
+
+    /// One round of both sorts: vertices go to the edges by `Over` and back by `Back`, and edges to the vertices by `Over` and back
+    /// by `Back`. Two sweeps over the edges.
+    fn round<Over: Semilattice<K>, Back: Semilattice<K>>(&mut self)
+        ensures { ChangesByRounds self.old self.new (λ round. round Over.Semilattice.side Back.Semilattice.side) }
+    {
+        let graph = self.graph;
+        let table = graph.edges();
+        exchange::<Over, K>(table, self.vertices, self.edges, self.scratch);
+        exchange::<Back, K>(table, self.scratch, self.edges, self.vertices);
+    }
+
+    /// So many rounds.
+    pub(crate) fn rounds<Over: Semilattice<K>, Back: Semilattice<K>>(&mut self, count: u32)
+        ensures { ChangesByRounds self.old self.new (λ round. repeat (round Over.Semilattice.side Back.Semilattice.side) count) }
+    {
+        for _done in 0..count {
+            self.round::<Over, Back>();
+        }
     }
 }
