@@ -22,15 +22,12 @@ impl Generator {
 
     /// One step; the answer is the upper half of the state, reduced to a number below `bound`, or 0 where `bound` is 0.
     pub(crate) fn below(&mut self, bound: u32) -> u32 {
-        let [_, _, _, _, a, b, c, d] = self.step().to_le_bytes();
-        u32::from_le_bytes([a, b, c, d])
-            .checked_rem(bound)
-            .unwrap_or(0)
+        let upper = (self.step() >> 32) as u32;
+        upper.checked_rem(bound).unwrap_or(0)
     }
 
     /// One step; the answer is the uppermost 16 bits of the state.
     pub(crate) fn upper_bits(&mut self) -> u16 {
-        let [.., a, b] = self.step().to_le_bytes();
-        u16::from_le_bytes([a, b])
+        (self.step() >> 48) as u16
     }
 }

@@ -1,4 +1,3 @@
 -- The lemmas that several proofs share.
-mod Refusing
 mod Rows
 mod Spelling

@@ -22,6 +22,7 @@ pub fn evaluate_as_with<P: Progress>(
     ensures records { Gives (evaluated_as kind.base kind.reversed (input job.entry)) result }
     ensures sizes { IfOk result (λ e. Sized (base_width kind.base) e) }
 {
+    // Kept as a match: each arm picks a type, which no value can stand for.
     match (kind.base, kind.reversed) {
         (BaseKind::Presence, false) => evaluate_with::<Presence, P>(heap, job, progress),
         (BaseKind::Level, false) => evaluate_with::<Level, P>(heap, job, progress),

@@ -4,6 +4,8 @@ ghost use Rattle.std.specs.Prelude.{IfOk};
 ghost use Rattle.evaluation.specs.Evaluations.{Gives, evaluated, input, stored_kind};
 ghost use Rattle.evaluation.specs.Sizes.{Sized};
 
+// The members of the kind are written out in each contract: a name for them would be one more trait that callers have to read.
+
 use crate::jobs::{Evaluated, Failure, Job};
 use crate::tables::edge_table;
 use crate::working::evaluate_on;
