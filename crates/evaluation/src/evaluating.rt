@@ -21,8 +21,8 @@ pub fn evaluate_with<K: Stored, P: Progress>(
     job: Job<'_>,
     progress: &mut P,
 ) -> Result<Evaluated, Failure>
-    ensures records { Gives (evaluated (stored_kind K.Kind.operations K.Kind.leq K.Stored.size K.Stored.parsed K.Stored.written) (input job.entry)) result }
-    ensures sizes { IfOk result (λ e. Sized K.Stored.size e) }
+    ensures records { Gives (evaluated (stored_kind K.Kind.operations K.Kind.leq K.Stored.WIDTH K.Stored.parsed K.Stored.written) (input job.entry)) result }
+    ensures sizes { IfOk result (λ e. Sized K.Stored.WIDTH e) }
 {
     let table = edge_table(heap, job.n, job.graph)?;
     let mut graph = Graph::empty();
@@ -38,8 +38,8 @@ pub fn evaluate_with<K: Stored, P: Progress>(
 ///
 /// Without enough memory the answer is [`Failure::NoMemory`], whatever is right or wrong with the bytes.
 pub fn evaluate<K: Stored>(heap: Global, job: Job<'_>) -> Result<Evaluated, Failure>
-    ensures records { Gives (evaluated (stored_kind K.Kind.operations K.Kind.leq K.Stored.size K.Stored.parsed K.Stored.written) (input job.entry)) result }
-    ensures sizes { IfOk result (λ e. Sized K.Stored.size e) }
+    ensures records { Gives (evaluated (stored_kind K.Kind.operations K.Kind.leq K.Stored.WIDTH K.Stored.parsed K.Stored.written) (input job.entry)) result }
+    ensures sizes { IfOk result (λ e. Sized K.Stored.WIDTH e) }
 {
     evaluate_with::<K, Silent>(heap, job, &mut Silent)
 }

@@ -62,9 +62,9 @@ fn work<K: Stored, P: Progress>(
     requires weights { Fits (shape_of graph.now) (weights_before weights) }
     requires scratch { Fits (shape_of graph.now) (weights_before scratch) }
     requires held { Fits (shape_of graph.now) (weights_before held) }
-    requires vertex_records { length vertex_records.old ≡ graph.now.n * K.Stored.size }
-    requires edge_records { length edge_records.old ≡ length graph.now.edges.now * K.Stored.size }
-    ensures { Counts (evaluated_on (stored_kind K.Kind.operations K.Kind.leq K.Stored.size K.Stored.parsed K.Stored.written) (shape_of graph.now) (input job.entry)) (shape_of graph.now) (bytes_of_both vertex_records.new edge_records.new) result }
+    requires vertex_records { length vertex_records.old ≡ graph.now.n * K.Stored.WIDTH }
+    requires edge_records { length edge_records.old ≡ length graph.now.edges.now * K.Stored.WIDTH }
+    ensures { Counts (evaluated_on (stored_kind K.Kind.operations K.Kind.leq K.Stored.WIDTH K.Stored.parsed K.Stored.written) (shape_of graph.now) (input job.entry)) (shape_of graph.now) (bytes_of_both vertex_records.new edge_records.new) result }
 {
     let WeightsMut { vertices, edges } = scratch;
     let scratch = WeightsMut { vertices, edges };
@@ -94,9 +94,9 @@ fn work_in_memory<K: Stored, P: Progress>(
     edge_records: &mut [u8],
     progress: &mut P,
 ) -> Result<usize, Failure>
-    requires vertex_records { length vertex_records.old ≡ graph.now.n * K.Stored.size }
-    requires edge_records { length edge_records.old ≡ length graph.now.edges.now * K.Stored.size }
-    ensures { CountsInMemory (evaluated_on (stored_kind K.Kind.operations K.Kind.leq K.Stored.size K.Stored.parsed K.Stored.written) (shape_of graph.now) (input job.entry)) (shape_of graph.now) (bytes_of_both vertex_records.new edge_records.new) result }
+    requires vertex_records { length vertex_records.old ≡ graph.now.n * K.Stored.WIDTH }
+    requires edge_records { length edge_records.old ≡ length graph.now.edges.now * K.Stored.WIDTH }
+    ensures { CountsInMemory (evaluated_on (stored_kind K.Kind.operations K.Kind.leq K.Stored.WIDTH K.Stored.parsed K.Stored.written) (shape_of graph.now) (input job.entry)) (shape_of graph.now) (bytes_of_both vertex_records.new edge_records.new) result }
 {
     let mut weights = Memory::<K>::new(heap, graph)?;
     let mut scratch = Memory::<K>::new(heap, graph)?;
@@ -121,8 +121,8 @@ pub(crate) fn evaluate_on<K: Stored, P: Progress>(
     job: Job<'_>,
     progress: &mut P,
 ) -> Result<Evaluated, Failure>
-    ensures records { Gives (evaluated_on (stored_kind K.Kind.operations K.Kind.leq K.Stored.size K.Stored.parsed K.Stored.written) (shape_of graph.now) (input job.entry)) result }
-    ensures sizes { IfOk result (λ e. Sized K.Stored.size e) }
+    ensures records { Gives (evaluated_on (stored_kind K.Kind.operations K.Kind.leq K.Stored.WIDTH K.Stored.parsed K.Stored.written) (shape_of graph.now) (input job.entry)) result }
+    ensures sizes { IfOk result (λ e. Sized K.Stored.WIDTH e) }
 {
     let vertices = graph.order();
     let edges = graph.edges().len();

@@ -15,13 +15,9 @@ impl Stored for Classes {
 
     ghost WIDTH = { 4 };
 
-    ghost size = { 4 };
-
     ghost parsed = { parsed_classes };
 
     ghost written = { classes_record };
-
-    ghost width = { Prim.search rules };
 
     ghost narrow = { Prim.search rules };
 

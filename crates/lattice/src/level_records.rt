@@ -15,13 +15,9 @@ impl Stored for Level {
 
     ghost WIDTH = { 2 };
 
-    ghost size = { 2 };
-
     ghost parsed = { parsed_level };
 
     ghost written = { level_record };
-
-    ghost width = { Prim.search rules };
 
     ghost narrow = { Prim.search rules };
 

@@ -14,13 +14,9 @@ impl Stored for Presence {
 
     ghost WIDTH = { 1 };
 
-    ghost size = { 1 };
-
     ghost parsed = { parsed_presence };
 
     ghost written = { presence_record };
-
-    ghost width = { Prim.search rules };
 
     ghost narrow = { Prim.search rules };
 

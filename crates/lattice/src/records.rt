@@ -12,9 +12,6 @@ pub trait Stored: Kind {
 
     ghost WIDTH: { ℕ };
 
-    /// How many bytes a record has, as the constant.
-    ghost size: { ℕ };
-
     /// The value that bytes stand for, where they stand for one.
     ghost parsed: { List ℕ → Option Self };
 
@@ -23,7 +20,7 @@ pub trait Stored: Kind {
 
     /// How many bytes a record has: [`Stored::WIDTH`].
     fn record_size() -> usize
-        ensures { result ≡ size }
+        ensures { result ≡ WIDTH }
     {
         Self::WIDTH
     }
@@ -35,18 +32,16 @@ pub trait Stored: Kind {
     /// Writes the record of this value to the bytes and answers yes. Bytes of another length than a record's are left as they
     /// are, and the answer is no.
     fn encode(self, bytes: &mut [u8]) -> bool
-        ensures fits { result ≡ (length bytes.old == size) }
-        ensures bytes { bytes.new ≡ recorded size (written self) bytes.old };
+        ensures fits { result ≡ (length bytes.old == WIDTH) }
+        ensures bytes { bytes.new ≡ recorded WIDTH (written self) bytes.old };
 
-    ghost width: { WIDTH ≡ size };
+    ghost narrow: { (1 ≤ WIDTH) × (WIDTH ≤ 8) };
 
-    ghost narrow: { (1 ≤ size) × (size ≤ 8) };
-
-    ghost sized: { (x : Self) → length (written x) ≡ size };
+    ghost sized: { (x : Self) → length (written x) ≡ WIDTH };
 
     ghost read_back: { (x : Self) → parsed (written x) ≡ Some x };
 
-    ghost whole: { (bytes : List ℕ) → (length bytes == size) ≡ false → parsed bytes ≡ None };
+    ghost whole: { (bytes : List ℕ) → (length bytes == WIDTH) ≡ false → parsed bytes ≡ None };
 }
 
 /// Writes a record to the bytes and answers yes. Bytes of another length than the record's are left as they are, and the answer

@@ -14,10 +14,6 @@ impl<K: Stored> Stored for Reversed<K> {
 
     ghost WIDTH = { K.Stored.WIDTH };
 
-    ghost size = { K.Stored.size };
-
-    ghost width = { K.Stored.width };
-
     ghost parsed = { λ bs. reversed_option (K.Stored.parsed bs) };
 
     ghost written = { λ x. K.Stored.written x.inner };
@@ -37,8 +33,8 @@ impl<K: Stored> Stored for Reversed<K> {
     }
 
     fn encode(self, bytes: &mut [u8]) -> bool
-        ensures fits { result ≡ (length bytes.old == K.Stored.size) }
-        ensures bytes { bytes.new ≡ recorded K.Stored.size (K.Stored.written self.inner) bytes.old }
+        ensures fits { result ≡ (length bytes.old == K.Stored.WIDTH) }
+        ensures bytes { bytes.new ≡ recorded K.Stored.WIDTH (K.Stored.written self.inner) bytes.old }
     {
         self.inner.encode(bytes)
     }

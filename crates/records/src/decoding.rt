@@ -7,8 +7,8 @@ use lattice::{Kind, Stored};
 
 /// The value that record i stands for. An edge reads the records of its ends so, which may stand anywhere.
 pub(crate) fn decode_at<K: Stored>(records: &[u8], i: usize) -> Option<K>
-    requires { i * K.Stored.size + K.Stored.size ≤ length records.now }
-    ensures { result ≡ value_at (format K.Stored.size K.Stored.parsed) records.now i }
+    requires { i * K.Stored.WIDTH + K.Stored.WIDTH ≤ length records.now }
+    ensures { result ≡ value_at (format K.Stored.WIDTH K.Stored.parsed) records.now i }
 {
     let width = K::record_size();
     let start = i * width;
@@ -24,8 +24,8 @@ fn decode_or_lowest<K: Stored>(record: &[u8]) -> K
 
 /// Writes the value of each record to its weight.
 pub(crate) fn decode_all<K: Stored>(records: &[u8], weights: &mut [K])
-    requires { length records.now ≡ length weights.old * K.Stored.size }
-    ensures { weights.new ≡ values (format K.Stored.size K.Stored.parsed) K.Kind.operations.lowest (length weights.old) records.now }
+    requires { length records.now ≡ length weights.old * K.Stored.WIDTH }
+    ensures { weights.new ≡ values (format K.Stored.WIDTH K.Stored.parsed) K.Kind.operations.lowest (length weights.old) records.now }
 {
     // Each weight is written by its place, since no proof is found of what a loop over a zip with `iter_mut` leaves in the weights.
     for (i, record) in records.chunks_exact(K::record_size()).enumerate() {

@@ -24,7 +24,7 @@ fn judge_vertex<K: Stored>(record: &[u8], i: usize) -> Result<(), Refusal>
 
 /// Judges each vertex record, first to last.
 fn judge_vertices<K: Stored>(records: &[u8]) -> Result<(), Refusal>
-    ensures { (n : ℕ) → length records.now ≡ n * K.Stored.size → answer result ≡ first_refusal (vertex_verdict (format K.Stored.size K.Stored.parsed) records.now) n }
+    ensures { (n : ℕ) → length records.now ≡ n * K.Stored.WIDTH → answer result ≡ first_refusal (vertex_verdict (format K.Stored.WIDTH K.Stored.parsed) records.now) n }
 {
     for (i, record) in records.chunks_exact(K::record_size()).enumerate() {
         judge_vertex::<K>(record, i)?;
@@ -52,8 +52,8 @@ fn judge_edge<K: Stored>(
 ) -> Result<(), Refusal>
     requires within { Within n edge }
     requires few { n + j < 2 ^ 64 }
-    requires vertices { length vertex_records.now ≡ n * K.Stored.size }
-    ensures { answer result ≡ ends_verdict K.Kind.leq n j (value_at (format K.Stored.size K.Stored.parsed) vertex_records.now edge.first) (value_at (format K.Stored.size K.Stored.parsed) vertex_records.now edge.second) (K.Stored.parsed record.now) }
+    requires vertices { length vertex_records.now ≡ n * K.Stored.WIDTH }
+    ensures { answer result ≡ ends_verdict K.Kind.leq n j (value_at (format K.Stored.WIDTH K.Stored.parsed) vertex_records.now edge.first) (value_at (format K.Stored.WIDTH K.Stored.parsed) vertex_records.now edge.second) (K.Stored.parsed record.now) }
 {
     let Some(weight) = K::decode(record) else {
         return Err(Refusal::NotAValue(n + j));
@@ -76,9 +76,9 @@ fn judge_edges<K: Stored>(
 ) -> Result<(), Refusal>
     requires within { AllWithin n table.now }
     requires few { n + length table.now < 2 ^ 64 }
-    requires vertices { length vertex_records.now ≡ n * K.Stored.size }
-    requires edges { length edge_records.now ≡ length table.now * K.Stored.size }
-    ensures { answer result ≡ table_verdict K.Kind.leq (format K.Stored.size K.Stored.parsed) n table.now vertex_records.now edge_records.now }
+    requires vertices { length vertex_records.now ≡ n * K.Stored.WIDTH }
+    requires edges { length edge_records.now ≡ length table.now * K.Stored.WIDTH }
+    ensures { answer result ≡ table_verdict K.Kind.leq (format K.Stored.WIDTH K.Stored.parsed) n table.now vertex_records.now edge_records.now }
 {
     let records = edge_records.chunks_exact(K::record_size());
     for (j, (edge, record)) in table.iter().zip(records).enumerate() {
@@ -90,7 +90,7 @@ fn judge_edges<K: Stored>(
 /// Whether the bytes are as many records as the count says.
 pub(crate) fn is_whole<K: Stored>(count: usize, records: &[u8]) -> bool
     requires { count ≤ 4000000 }
-    ensures { result ≡ bytes_fit count K.Stored.size records.now }
+    ensures { result ≡ bytes_fit count K.Stored.WIDTH records.now }
 {
     records.len() == count * K::record_size()
 }
@@ -98,7 +98,7 @@ pub(crate) fn is_whole<K: Stored>(count: usize, records: &[u8]) -> bool
 /// Whether the bytes are as many records as the count says, or absent.
 fn is_absent_or_whole<K: Stored>(count: usize, records: Option<&[u8]>) -> bool
     requires { count ≤ 4000000 }
-    ensures { result ≡ edge_bytes_fit count K.Stored.size (bytes_in records.entry) }
+    ensures { result ≡ edge_bytes_fit count K.Stored.WIDTH (bytes_in records.entry) }
 {
     records.is_none_or(|records| is_whole::<K>(count, records))
 }
@@ -109,7 +109,7 @@ pub(crate) fn judge<K: Stored>(
     vertex_records: &[u8],
     edge_records: Option<&[u8]>,
 ) -> Result<(), Refusal>
-    ensures { answer result ≡ records_verdict K.Kind.leq (format K.Stored.size K.Stored.parsed) (shape_of graph.now) vertex_records.now (bytes_in edge_records.entry) }
+    ensures { answer result ≡ records_verdict K.Kind.leq (format K.Stored.WIDTH K.Stored.parsed) (shape_of graph.now) vertex_records.now (bytes_in edge_records.entry) }
 {
     let n = graph.order();
     let table = graph.edges();

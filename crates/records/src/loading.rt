@@ -24,7 +24,7 @@ fn load_into<K: Stored>(
     vertices: &mut [K],
     edges: &mut [K],
 ) -> Result<(), Refusal>
-    ensures { loaded (answer result) (weighting vertices.new edges.new) ≡ load_call K.Kind.operations K.Kind.leq (format K.Stored.size K.Stored.parsed) (shape_of graph.now) vertex_records.now (bytes_in edge_records.entry) (weighting vertices.old edges.old) }
+    ensures { loaded (answer result) (weighting vertices.new edges.new) ≡ load_call K.Kind.operations K.Kind.leq (format K.Stored.WIDTH K.Stored.parsed) (shape_of graph.now) vertex_records.now (bytes_in edge_records.entry) (weighting vertices.old edges.old) }
 {
     if !fits(graph, vertices, edges) {
         return Err(Refusal::WeightBufferLength);
@@ -59,9 +59,9 @@ pub fn load<K: Stored>(
     edge_records: Option<&[u8]>,
     weights: WeightsMut<'_, '_, K>,
 ) -> Result<(), Refusal>
-    ensures call { loaded (answer result) (weights_after weights.exit) ≡ load_call K.Kind.operations K.Kind.leq (format K.Stored.size K.Stored.parsed) (shape_of graph.now) vertex_records.now (bytes_in edge_records.entry) (weights_before weights.entry) }
-    ensures accepted { (answer result ≡ accepted tt) ↔ (Loadable K.Kind.below (format K.Stored.size K.Stored.parsed) (shape_of graph.now) vertex_records.now (bytes_in edge_records.entry) (weights_before weights.entry)) }
-    ensures judged { (a : Verdict) → (answer result ≡ a) ↔ (Judged K.Kind.below (format K.Stored.size K.Stored.parsed) (shape_of graph.now) vertex_records.now (bytes_in edge_records.entry) (weights_before weights.entry) a) }
+    ensures call { loaded (answer result) (weights_after weights.exit) ≡ load_call K.Kind.operations K.Kind.leq (format K.Stored.WIDTH K.Stored.parsed) (shape_of graph.now) vertex_records.now (bytes_in edge_records.entry) (weights_before weights.entry) }
+    ensures accepted { (answer result ≡ accepted tt) ↔ (Loadable K.Kind.below (format K.Stored.WIDTH K.Stored.parsed) (shape_of graph.now) vertex_records.now (bytes_in edge_records.entry) (weights_before weights.entry)) }
+    ensures judged { (a : Verdict) → (answer result ≡ a) ↔ (Judged K.Kind.below (format K.Stored.WIDTH K.Stored.parsed) (shape_of graph.now) vertex_records.now (bytes_in edge_records.entry) (weights_before weights.entry) a) }
     ensures bounded { answer result ≡ accepted tt → EdgesBelowEnds K.Kind.below (shape_of graph.now) (weights_after weights.exit) }
 {
     // Taken apart before the call, since no proof is found where the lent buffers are passed on as one value.

@@ -22,7 +22,7 @@ fn store_from<K: Stored>(
     vertex_records: &mut [u8],
     edge_records: &mut [u8],
 ) -> Result<(), Refusal>
-    ensures { stored (answer result) (bytes_of_both vertex_records.new edge_records.new) ≡ store_call K.Stored.size K.Stored.written (shape_of graph.now) (weights_in weights.entry) (bytes_of_both vertex_records.old edge_records.old) }
+    ensures { stored (answer result) (bytes_of_both vertex_records.new edge_records.new) ≡ store_call K.Stored.WIDTH K.Stored.written (shape_of graph.now) (weights_in weights.entry) (bytes_of_both vertex_records.old edge_records.old) }
 {
     let Weights { vertices, edges } = weights;
     if !fits(graph, vertices, edges) {
@@ -49,10 +49,10 @@ pub fn store<K: Stored>(
     vertex_records: &mut [u8],
     edge_records: &mut [u8],
 ) -> Result<(), Refusal>
-    ensures call { stored (answer result) (bytes_of_both vertex_records.new edge_records.new) ≡ store_call K.Stored.size K.Stored.written (shape_of graph.now) (weights_in weights.entry) (bytes_of_both vertex_records.old edge_records.old) }
-    ensures vertices { answer result ≡ accepted tt → StandFor (format K.Stored.size K.Stored.parsed) vertex_records.new (weights_in weights.entry).vertices }
-    ensures edges { answer result ≡ accepted tt → StandFor (format K.Stored.size K.Stored.parsed) edge_records.new (weights_in weights.entry).edges }
-    ensures loads { answer result ≡ accepted tt → LoadsBack K.Kind.below K.Kind.operations K.Kind.leq (format K.Stored.size K.Stored.parsed) (shape_of graph.now) (bytes_of_both vertex_records.new edge_records.new) (weights_in weights.entry) }
+    ensures call { stored (answer result) (bytes_of_both vertex_records.new edge_records.new) ≡ store_call K.Stored.WIDTH K.Stored.written (shape_of graph.now) (weights_in weights.entry) (bytes_of_both vertex_records.old edge_records.old) }
+    ensures vertices { answer result ≡ accepted tt → StandFor (format K.Stored.WIDTH K.Stored.parsed) vertex_records.new (weights_in weights.entry).vertices }
+    ensures edges { answer result ≡ accepted tt → StandFor (format K.Stored.WIDTH K.Stored.parsed) edge_records.new (weights_in weights.entry).edges }
+    ensures loads { answer result ≡ accepted tt → LoadsBack K.Kind.below K.Kind.operations K.Kind.leq (format K.Stored.WIDTH K.Stored.parsed) (shape_of graph.now) (bytes_of_both vertex_records.new edge_records.new) (weights_in weights.entry) }
 {
     store_from(graph, weights, vertex_records, edge_records)
 }

@@ -27,7 +27,7 @@ impl<'g, 'e, K: Stored> Sheet<'g, 'e, K, Clear> {
         edge_records: Option<&[u8]>,
         weights: WeightsMut<'_, '_, K>,
     ) -> Result<Sheet<'g, 'e, K, Clear>, Refusal>
-        ensures buffers { loaded (opened result) (weights_after weights.exit) ≡ load_call K.Kind.operations K.Kind.leq (format K.Stored.size K.Stored.parsed) (shape_of graph.now) vertex_records.now (bytes_in edge_records.entry) (weights_before weights.entry) }
+        ensures buffers { loaded (opened result) (weights_after weights.exit) ≡ load_call K.Kind.operations K.Kind.leq (format K.Stored.WIDTH K.Stored.parsed) (shape_of graph.now) vertex_records.now (bytes_in edge_records.entry) (weights_before weights.entry) }
         ensures sheet { KeepsGraph graph.entry result }
     {
         // Taken apart first, since a parameter that holds a `&mut` slice cannot be passed on to a call.
@@ -51,7 +51,7 @@ impl<'g, 'e, K: Stored> Sheet<'g, 'e, K, Clear> {
         vertex_records: &mut [u8],
         edge_records: &mut [u8],
     ) -> Result<(), Refused<Self>>
-        ensures buffers { stored (closed result) (bytes_of_both vertex_records.new edge_records.new) ≡ store_call K.Stored.size K.Stored.written (sheet_shape self.entry) (weights_in weights.entry) (bytes_of_both vertex_records.old edge_records.old) }
+        ensures buffers { stored (closed result) (bytes_of_both vertex_records.new edge_records.new) ≡ store_call K.Stored.WIDTH K.Stored.written (sheet_shape self.entry) (weights_in weights.entry) (bytes_of_both vertex_records.old edge_records.old) }
         ensures sheet { HandsBack self.entry.graph result }
     {
         store(self.graph, weights, vertex_records, edge_records).map_err(|why| Refused {

@@ -7,7 +7,7 @@ use Rattle.records.proofs.decoding.decode_all.Goals as goal
 
 pub offset_bounds-weights-i : goal.offset_bounds-weights-i
 offset_bounds-weights-i g c =
-    let w = g.K.Stored.size in
+    let w = g.K.Stored.WIDTH in
     let n = length c.args.weights.now in
     let bytes = c.args.records.now in
     let some : 0 < w = omega (arith, g.met.K.Stored.narrow) in
@@ -17,7 +17,7 @@ offset_bounds-weights-i g c =
 
 pub loop-i-preserved : goal.loop-i-preserved
 loop-i-preserved g c =
-    let w = g.K.Stored.size in
+    let w = g.K.Stored.WIDTH in
     let f = format w g.K.Stored.parsed in
     let d = g.K.Kind.operations.lowest in
     let n = length c.args.weights.now in
@@ -29,7 +29,7 @@ loop-i-preserved g c =
 
 pub returns : goal.returns
 returns g c =
-    let w = g.K.Stored.size in
+    let w = g.K.Stored.WIDTH in
     let n = length c.args.weights.now in
     let bytes = c.args.records.now in
     let some : 0 < w = omega (arith, g.met.K.Stored.narrow) in

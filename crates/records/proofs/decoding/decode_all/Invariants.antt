@@ -4,4 +4,4 @@ use Rattle.records.proofs.decoding.decode_all.Given as goal
 
 -- the weights so far are the values of their records
 abbrev pub invariant-loop-i : goal.invariant-loop-i
-invariant-loop-i g l = take (length l.yielded) l.weights ≡ values (format g.K.Stored.size g.K.Stored.parsed) g.K.Kind.operations.lowest (length l.yielded) l.records
+invariant-loop-i g l = take (length l.yielded) l.weights ≡ values (format g.K.Stored.WIDTH g.K.Stored.parsed) g.K.Kind.operations.lowest (length l.yielded) l.records

@@ -10,7 +10,7 @@ use Rattle.records.proofs.judging.judge_edges.Goals as goal
 
 pub loop-j-preserved : goal.loop-j-preserved
 loop-j-preserved g c =
-    let w = g.K.Stored.size in
+    let w = g.K.Stored.WIDTH in
     let f = format w g.K.Stored.parsed in
     let table = c.args.table.now in
     let bytes = c.args.edge_records.now in
@@ -25,7 +25,7 @@ loop-j-preserved g c =
 
 pub returns-in_err-judge_edge : goal.returns-in_err-judge_edge
 returns-in_err-judge_edge g c =
-    let w = g.K.Stored.size in
+    let w = g.K.Stored.WIDTH in
     let f = format w g.K.Stored.parsed in
     let table = c.args.table.now in
     let bytes = c.args.edge_records.now in
@@ -40,7 +40,7 @@ returns-in_err-judge_edge g c =
 
 pub returns : goal.returns
 returns g c =
-    let w = g.K.Stored.size in
+    let w = g.K.Stored.WIDTH in
     let f = format w g.K.Stored.parsed in
     let table = c.args.table.now in
     let bytes = c.args.edge_records.now in

@@ -7,4 +7,4 @@ use Rattle.records.proofs.judging.judge_edges.Given as goal
 -- no record so far is refused
 abbrev pub invariant-loop-j : goal.invariant-loop-j
 invariant-loop-j g l =
-    first_refusal (λ j. edge_verdict g.K.Kind.leq (format g.K.Stored.size g.K.Stored.parsed) l.n l.vertex_records l.edge_records j (edge_at l.table j)) (length l.yielded) ≡ accepted tt
+    first_refusal (λ j. edge_verdict g.K.Kind.leq (format g.K.Stored.WIDTH g.K.Stored.parsed) l.n l.vertex_records l.edge_records j (edge_at l.table j)) (length l.yielded) ≡ accepted tt

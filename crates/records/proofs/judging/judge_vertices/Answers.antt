@@ -9,7 +9,7 @@ use Rattle.records.proofs.judging.judge_vertices.Goals as goal
 
 pub loop-i-preserved : goal.loop-i-preserved
 loop-i-preserved g c n long =
-    let w = g.K.Stored.size in
+    let w = g.K.Stored.WIDTH in
     let f = format w g.K.Stored.parsed in
     let bytes = c.args.records.now in
     let some : 0 < w = omega (arith, g.met.K.Stored.narrow) in
@@ -21,7 +21,7 @@ loop-i-preserved g c n long =
 
 pub returns-in_err-judge_vertex : goal.returns-in_err-judge_vertex
 returns-in_err-judge_vertex g c n long =
-    let w = g.K.Stored.size in
+    let w = g.K.Stored.WIDTH in
     let f = format w g.K.Stored.parsed in
     let bytes = c.args.records.now in
     let some : 0 < w = omega (arith, g.met.K.Stored.narrow) in
@@ -33,7 +33,7 @@ returns-in_err-judge_vertex g c n long =
 
 pub returns : goal.returns
 returns g c n long =
-    let w = g.K.Stored.size in
+    let w = g.K.Stored.WIDTH in
     let f = format w g.K.Stored.parsed in
     let bytes = c.args.records.now in
     let some : 0 < w = omega (arith, g.met.K.Stored.narrow) in

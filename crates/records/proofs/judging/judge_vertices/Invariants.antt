@@ -7,4 +7,4 @@ use Rattle.records.proofs.judging.judge_vertices.Given as goal
 -- no record so far is refused
 abbrev pub invariant-loop-i : goal.invariant-loop-i
 invariant-loop-i g l =
-    (n : ℕ) → length l.records ≡ n * g.K.Stored.size → first_refusal (vertex_verdict (format g.K.Stored.size g.K.Stored.parsed) l.records) (length l.yielded) ≡ accepted tt
+    (n : ℕ) → length l.records ≡ n * g.K.Stored.WIDTH → first_refusal (vertex_verdict (format g.K.Stored.WIDTH g.K.Stored.parsed) l.records) (length l.yielded) ≡ accepted tt

@@ -12,7 +12,7 @@ use Rattle.records.proofs.loading.load.Goals as goal
 pub returns : goal.returns
 returns g c =
     let leq = g.K.Kind.leq in
-    let f = format g.K.Stored.size g.K.Stored.parsed in
+    let f = format g.K.Stored.WIDTH g.K.Stored.parsed in
     let graph = shape_of c.args.graph.now in
     let vertices = c.args.vertex_records.now in
     let edges = bytes_in c.args.edge_records in

@@ -9,10 +9,10 @@ use Rattle.records.proofs.storing.store.Goals as goal
 
 pub returns : goal.returns
 returns g c =
-    let size = g.K.Stored.size in
+    let size = g.K.Stored.WIDTH in
     let written = g.K.Stored.written in
     let f = format size g.K.Stored.parsed in
-    let sized = g.met.K.Stored.sized in
+    let sized = g.met.K.Stored.WIDTHd in
     let read_back = g.met.K.Stored.read_back in
     let graph = c.args.graph.now in
     let w = weights_in c.args.weights in
