@@ -16,10 +16,10 @@ pub(crate) fn decode_at<K: Stored>(records: &[u8], i: usize) -> Option<K>
 }
 
 /// The value that a record stands for, or the lowest where it stands for none.
-fn decode_or_lowest<K: Stored>(record: &[u8]) -> K
-    ensures { result ≡ value_or K.Kind.operations.lowest (K.Stored.parsed record.now) }
+fn decode_or_lowest<K: Stored>(bytes: &[u8]) -> K
+    ensures { result ≡ value_or K.Kind.operations.lowest (K.Stored.parsed bytes.now) }
 {
-    K::decode(record).unwrap_or(K::lowest())
+    K::decode(bytes).unwrap_or(K::lowest())
 }
 
 /// Writes the value of each record to its weight.

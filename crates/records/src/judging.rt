@@ -13,10 +13,10 @@ use lattice::{Kind, Stored};
 use refusal::Refusal;
 
 /// Judges the record of vertex i.
-fn judge_vertex<K: Stored>(record: &[u8], i: usize) -> Result<(), Refusal>
-    ensures { answer result ≡ value_verdict i (K.Stored.parsed record.now) }
+fn judge_vertex<K: Stored>(bytes: &[u8], i: usize) -> Result<(), Refusal>
+    ensures { answer result ≡ value_verdict i (K.Stored.parsed bytes.now) }
 {
-    match K::decode(record) {
+    match K::decode(bytes) {
         Some(_) => Ok(()),
         None => Err(Refusal::NotAValue(i)),
     }
@@ -48,14 +48,14 @@ fn judge_edge<K: Stored>(
     edge: Edge,
     j: usize,
     vertex_records: &[u8],
-    record: &[u8],
+    bytes: &[u8],
 ) -> Result<(), Refusal>
     requires within { Within n edge }
     requires few { n + j < 2 ^ 64 }
     requires vertices { length vertex_records.now ≡ n * K.Stored.WIDTH }
-    ensures { answer result ≡ ends_verdict K.Kind.leq n j (value_at (format K.Stored.WIDTH K.Stored.parsed) vertex_records.now edge.first) (value_at (format K.Stored.WIDTH K.Stored.parsed) vertex_records.now edge.second) (K.Stored.parsed record.now) }
+    ensures { answer result ≡ ends_verdict K.Kind.leq n j (value_at (format K.Stored.WIDTH K.Stored.parsed) vertex_records.now edge.first) (value_at (format K.Stored.WIDTH K.Stored.parsed) vertex_records.now edge.second) (K.Stored.parsed bytes.now) }
 {
-    let Some(weight) = K::decode(record) else {
+    let Some(weight) = K::decode(bytes) else {
         return Err(Refusal::NotAValue(n + j));
     };
     let first = decode_at(vertex_records, edge.first as usize);

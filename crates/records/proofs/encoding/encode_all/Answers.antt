@@ -12,8 +12,8 @@ loop-i-preserved g c =
     let w = g.K.Stored.WIDTH in
     let i = c.loop-i.i in
     let room = record_within w (length c.args.weights.now) i c.loop-i.records (c.loop-i.auto.records ∙ c.requires) c.loop-i-test.true in
-    ap (take ((i + 1) * w)) c.encode_at.ensures ∙ records_more w g.K.Stored.written g.met.K.Stored.WIDTHd c.args.weights.now c.loop-i.records i _ c.loop-i-test.true c.index-weights-i.is room c.loop-i.invariant
+    ap (take ((i + 1) * w)) c.encode_at.ensures ∙ records_more w g.K.Stored.written g.met.K.Stored.sized c.args.weights.now c.loop-i.records i _ c.loop-i-test.true c.index-weights-i.is room c.loop-i.invariant
 
 pub returns : goal.returns
 returns g c =
-    records_all g.K.Stored.WIDTH g.K.Stored.written g.met.K.Stored.WIDTHd c.args.weights.now c.loop-i.records c.loop-i.i (c.loop-i.auto.records ∙ c.requires) (omega arith) c.loop-i.invariant
+    records_all g.K.Stored.WIDTH g.K.Stored.written g.met.K.Stored.sized c.args.weights.now c.loop-i.records c.loop-i.i (c.loop-i.auto.records ∙ c.requires) (omega arith) c.loop-i.invariant
