@@ -1,2 +1,2 @@
-pub mod Doing
+pub mod Sizes
 pub mod HeldBuffer
