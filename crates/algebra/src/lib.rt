@@ -19,6 +19,8 @@ pub fn dilation_is_adjoint<K: Kind>()
     ensures { DilationAdjoint K.below K.operations }
 {}
 
+// Openings and closings have a function each, since each contract names its theorem. The proof is one, by the turned order.
+
 /// Openings of any sizes in any order leave what the largest alone leaves.
 pub fn openings_absorb<K: Kind>()
     ensures { OpeningsAbsorb K.operations }

@@ -21,6 +21,8 @@ pub(crate) enum Problem {
     NoMemory,
 }
 
+// `Failure` of `evaluation` has conversions of this shape: each error type says for itself which case it makes.
+
 impl From<Refusal> for Problem {
     ghost from_gives = { λ why r. r ≡ RefusedCase why };
 

@@ -8,6 +8,8 @@ use crate::places::combine_each;
 use filters::{Semilattice, fill};
 use lattice::Kind;
 
+// Pairs of slices and no struct of them: each caller would make it for one call.
+
 /// Makes a pair of buffers all lowest.
 pub(crate) fn make_lowest<K: Kind>(vertices: &mut [K], edges: &mut [K])
     ensures { weighting vertices.new edges.new ≡ blank K.operations (weighting vertices.old edges.old) }

@@ -41,6 +41,7 @@ impl<K: Kind> Run<'_, '_, K> {
         ensures places { SamePlaces self.old self.new }
         ensures words { pair_of self.new ≡ word_done K.operations (shape_of self.old.graph) word (pair_of self.old) }
     {
+        // A match, since words are data that a text brings: a closure for each would say no more than its arm.
         match word {
             Word::Step(filter) => {
                 let graph = self.graph;

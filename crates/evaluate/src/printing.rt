@@ -18,12 +18,12 @@ fn number_of(record: &[u8]) -> u32 {
 fn write_numbers(out: &mut BufWriter<Stdout>, records: &[u8], size: usize) -> io::Result<()>
     requires { 1 ≤ size }
 {
-    for (i, record) in records.chunks(size).enumerate() {
-        if i > 0 {
-            write!(out, " ")?;
-        }
-        let number = number_of(record);
-        write!(out, "{number}")?;
+    let mut records = records.chunks(size);
+    if let Some(first) = records.next() {
+        write!(out, "{}", number_of(first))?;
+    }
+    for record in records {
+        write!(out, " {}", number_of(record))?;
     }
     writeln!(out)
 }

@@ -59,13 +59,10 @@ impl<'a> fmt::Display for Misuse<'a> {
 
 /// The number of vertices. One that is too large for the machine is larger than any graph, and is refused with the graph.
 fn parse_order(word: &str) -> Result<usize, Misuse<'_>> {
-    match word.parse::<usize>() {
-        Ok(n) => Ok(n),
-        Err(error) => match error.kind() {
-            IntErrorKind::PosOverflow => Ok(usize::MAX),
-            _ => Err(Misuse::Order(word)),
-        },
-    }
+    word.parse::<usize>().or_else(|error| match error.kind() {
+        IntErrorKind::PosOverflow => Ok(usize::MAX),
+        _ => Err(Misuse::Order(word)),
+    })
 }
 
 /// The kind of a name.

@@ -21,6 +21,7 @@ pub struct Job<'a> {
     pub recipe: &'a [u8],
 }
 
+// How long the records are stands in the contracts and not in this type, since it depends on the width of a kind that no field names.
 /// The weights after the recipe, as records, and what was counted.
 #[derive(Drop)]
 pub struct Evaluated {

@@ -18,6 +18,7 @@ pub enum BaseKind {
 #[derive(Clone, Copy, PartialEq, Eq, Debug)]
 pub struct KindName {
     pub base: BaseKind,
+    // A part of the name, and no flag for whether `base` is there.
     pub reversed: bool,
 }
 

@@ -67,6 +67,7 @@ impl<K: Kind> Work<'_, '_, K> {
         ensures { ChangesByFilter K.operations self.old self.new (λ r. filter_by r filter.family filter.size) }
     {
         let size = filter.size;
+        // A match, since families are data that a caller brings: a closure for each would say no more than its arm.
         match filter.family {
             Family::Dilation => self.rounds::<Joins, Joins>(size),
             Family::Erosion => self.rounds::<Meets, Meets>(size),

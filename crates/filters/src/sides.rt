@@ -18,6 +18,8 @@ pub trait Semilattice<K> {
         ensures { result ≡ side.combine a b };
 }
 
+// The two instances, in four lines each, that make every pass and every filter one generic function.
+
 /// Combines by join.
 pub struct Joins;
 

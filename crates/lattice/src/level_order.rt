@@ -8,6 +8,8 @@ ghost use Rattle.std.proofs.Common.{rules};
 use crate::kinds::Kind;
 use crate::levels::Level;
 
+// Presences have the same bodies: the contracts of each kind name its own definitions, and what they share is the derived order.
+
 impl Kind for Level {
     ghost below = { level_below };
 

@@ -29,6 +29,7 @@ pub trait Stored: Kind {
     fn decode(bytes: &[u8]) -> Option<Self>
         ensures { result ≡ parsed bytes.now };
 
+    // The answer is a yes or a no and not a `Result`: there is one reason for a no, and no value beside it.
     /// Writes the record of this value to the bytes and answers yes. Bytes of another length than a record's are left as they
     /// are, and the answer is no.
     fn encode(self, bytes: &mut [u8]) -> bool
@@ -44,6 +45,8 @@ pub trait Stored: Kind {
     ghost whole: { (bytes : List ℕ) → (length bytes == WIDTH) ≡ false → parsed bytes ≡ None };
 }
 
+// What the kinds share in writing is this function. The rest of each `impl` is its own width and its own number, so that one macro or
+// generic number for all would be no shorter.
 /// Writes a record to the bytes and answers yes. Bytes of another length than the record's are left as they are, and the answer
 /// is no.
 pub(crate) fn write_record<const N: usize>(content: &[u8; N], bytes: &mut [u8]) -> bool

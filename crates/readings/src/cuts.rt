@@ -22,6 +22,7 @@ pub struct ChainCut<C: Chain> {
     ghost raised: { threshold ≢ C.Kind.operations.lowest },
 }
 
+// By hand, since the derive is refused for a generic struct with a ghost field.
 impl<C: Chain> Clone for ChainCut<C> {
     ghost is_clone = { λ x y. y ≡ x };
 

@@ -28,6 +28,8 @@ pub trait Reading {
     ghost morphism: { (f : Self) → Morphism Self.Source.Kind.operations Self.Target.Kind.operations (image f) };
 }
 
+// Four functions, and not two over a side: each says one of the four facts that a reading owes, in that fact's own words.
+
 /// Reads the lowest value: it is the lowest.
 pub fn read_lowest<R: Reading>(reading: &R) -> R::Target
     ensures value { result ≡ R.Reading.image reading.now R.Source.Kind.operations.lowest }

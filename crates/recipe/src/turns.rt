@@ -15,6 +15,7 @@ pub enum Turn {
 }
 
 impl Turn {
+    // One match on the own state and the word, which is the whole machine: kept so, as the table of turns reads.
     /// The turn after a word, or none where the word is out of turn.
     pub fn after(self, word: Word) -> Option<Turn>
         ensures { result ≡ turned self word }

@@ -5,6 +5,8 @@ use records::{load, store};
 use refusal::{Part, Refusal};
 use std::process::Abort;
 
+// The cases are of one shape, each with its own values, and stand apart so that each can be read by itself.
+
 /// What a call answers: a refusal by its number, its place and its part.
 type Outcome = Result<(), (u8, usize, Part)>;
 

@@ -14,6 +14,8 @@ use filters::{Joins, Meets, Weights, WeightsMut};
 use lattice::Kind;
 use refusal::Refusal;
 
+// That the graph stays is a clause of each transition, since it relates two sheets and is no fact of one.
+
 impl<'g, 'e, K: Kind> Sheet<'g, 'e, K, Clear> {
     /// Copies the weights to the held buffers and turns the sheet Holding.
     ///
@@ -34,6 +36,8 @@ impl<'g, 'e, K: Kind> Sheet<'g, 'e, K, Clear> {
 }
 
 impl<'g, 'e, K: Kind> Sheet<'g, 'e, K, Holding> {
+    // `join` and `meet` are one call of `combine_held` each: the two calls of a sheet keep their names.
+
     /// Puts at each place the join of its weight and the held one, clears the held buffers and turns the sheet Clear.
     ///
     /// Refused where a buffer has the wrong length (7); then every buffer is as it was, and the sheet comes back.
@@ -93,6 +97,7 @@ impl<'g, 'e, K, S> Sheet<'g, 'e, K, S> {
         ensures said { moved result ≡ answer said }
         ensures sheet { graph_after result ≡ self.entry.graph }
     {
+        // A match, since both answers take the sheet: `map` and `map_err` in turn would move it twice.
         match said {
             Ok(()) => Ok(self.into_state()),
             Err(why) => Err(Refused { sheet: self, why }),

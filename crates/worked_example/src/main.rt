@@ -39,6 +39,7 @@ impl From<io::Error> for Stop {
     }
 }
 
+// Kept beside that of `tryout`, for the reason that stands there.
 /// A weight for each vertex and edge.
 #[derive(Drop)]
 struct Buffers<K> {
