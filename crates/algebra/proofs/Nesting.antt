@@ -75,41 +75,38 @@ module _ {X Y : Type 0} (p : Passes X Y) where
   opened_nested n x = rounds_nested (n / 2) (n % 2) (omega arith) x
       ∙ ap (λ k. nested k p x) (twice_and_is (n % 2) (n / 2) ∙ omega arith)
 
+-- f and g, done to both sides, keep that R holds of them
+abbrev pub Keeps : {X Y : Type 0} → (X → Y → Type 0) → (X → X) → (Y → Y) → Type 0
+Keeps {X} {Y} R f g = (x : X) (y : Y) → R x y → R (f x) (g y)
+
 -- what two rounds keep between two sorts of weights
 pub record Related {X Y : Type 0} (R : X → Y → Type 0) (r : Rounds X) (s : Rounds Y) : Type 0 where
-  pub by_dilation : (x : X) (y : Y) → R x y → R (r.dilation x) (s.dilation y)
-  pub by_erosion : (x : X) (y : Y) → R x y → R (r.erosion x) (s.erosion y)
-  pub by_half_opening : (x : X) (y : Y) → R x y → R (r.half_opening x) (s.half_opening y)
-  pub by_half_closing : (x : X) (y : Y) → R x y → R (r.half_closing x) (s.half_closing y)
+  pub by_dilation : Keeps R r.dilation s.dilation
+  pub by_erosion : Keeps R r.erosion s.erosion
+  pub by_half_opening : Keeps R r.half_opening s.half_opening
+  pub by_half_closing : Keeps R r.half_closing s.half_closing
 
-repeat_related : {X Y : Type 0} (R : X → Y → Type 0) (f : X → X) (g : Y → Y) → ((x : X) (y : Y) → R x y → R (f x) (g y)) →
-    (n : ℕ) (x : X) (y : Y) → R x y → R (repeat f n x) (repeat g n y)
-repeat_related R f g step zero x y h = h
-repeat_related R f g step (suc n) x y h = step (repeat f n x) (repeat g n y) (repeat_related R f g step n x y h)
+repeat_related : {X Y : Type 0} {R : X → Y → Type 0} (f : X → X) (g : Y → Y) → Keeps R f g → (n : ℕ) → Keeps R (repeat f n) (repeat g n)
+repeat_related f g step zero x y h = h
+repeat_related f g step (suc n) x y h = step _ _ (repeat_related f g step n x y h)
 
 -- every filter keeps it too
 module _ {X Y : Type 0} {R : X → Y → Type 0} {r : Rounds X} {s : Rounds Y} (k : Related R r s) where
-  dilated_related : (n : ℕ) (x : X) (y : Y) → R x y → R (dilated r n x) (dilated s n y)
-  dilated_related n x y h = repeat_related R r.dilation s.dilation k.by_dilation n x y h
+  opened_related : (n : ℕ) → Keeps R (opened r n) (opened s n)
+  opened_related n x y h = repeat_related _ _ k.by_dilation (n / 2) _ _
+      (repeat_related _ _ k.by_half_opening (n % 2) _ _ (repeat_related _ _ k.by_erosion (n / 2) x y h))
 
-  eroded_related : (n : ℕ) (x : X) (y : Y) → R x y → R (eroded r n x) (eroded s n y)
-  eroded_related n x y h = repeat_related R r.erosion s.erosion k.by_erosion n x y h
+  closed_related : (n : ℕ) → Keeps R (closed r n) (closed s n)
+  closed_related n x y h = repeat_related _ _ k.by_erosion (n / 2) _ _
+      (repeat_related _ _ k.by_half_closing (n % 2) _ _ (repeat_related _ _ k.by_dilation (n / 2) x y h))
 
-  opened_related : (n : ℕ) (x : X) (y : Y) → R x y → R (opened r n x) (opened s n y)
-  opened_related n x y h = dilated_related (n / 2) _ _
-      (repeat_related R r.half_opening s.half_opening k.by_half_opening (n % 2) _ _ (eroded_related (n / 2) x y h))
-
-  closed_related : (n : ℕ) (x : X) (y : Y) → R x y → R (closed r n x) (closed s n y)
-  closed_related n x y h = eroded_related (n / 2) _ _
-      (repeat_related R r.half_closing s.half_closing k.by_half_closing (n % 2) _ _ (dilated_related (n / 2) x y h))
-
-  alternated_related : (n : ℕ) (x : X) (y : Y) → R x y → R (alternated r n x) (alternated s n y)
+  alternated_related : (n : ℕ) → Keeps R (alternated r n) (alternated s n)
   alternated_related zero x y h = h
   alternated_related (suc n) x y h = opened_related (suc n) _ _ (closed_related (suc n) _ _ (alternated_related n x y h))
 
-  pub filter_related : (f : Family) (n : ℕ) (x : X) (y : Y) → R x y → R (filter_by r f n x) (filter_by s f n y)
-  filter_related Dilation n = dilated_related n
-  filter_related Erosion n = eroded_related n
+  pub filter_related : (f : Family) (n : ℕ) → Keeps R (filter_by r f n) (filter_by s f n)
+  filter_related Dilation n = repeat_related _ _ k.by_dilation n
+  filter_related Erosion n = repeat_related _ _ k.by_erosion n
   filter_related OpenFamily n = opened_related n
   filter_related Closing n = closed_related n
   filter_related Alternate n = alternated_related n

@@ -2,7 +2,6 @@
 -- What holds of closings is what holds of openings where the order is turned.
 use Rattle.std.proofs.Common.{◌≡◌, ℕ, zero, suc, ◌<◌, ◌≤◌, max, ◌⊎◌, List, [], ◌∷◌, sym, refl, ap, ◌∙◌, subst, inl, inr, arith}
 use native.Mathlib.Decide.{le_ind}
-use native.Mathlib.Nat.{max-eq_left, max-eq_right}
 use Rattle.std.proofs.lemmas.Bool.{cases_lt}
 use Rattle.filters.specs.Filters.{alternating}
 use Rattle.algebra.specs.Laws.{in_turn, largest, last_of, NeverFalls}
@@ -72,8 +71,8 @@ module _ {X : Type 0} {below : X → X → Type 0} {γ : ℕ → X → X} (o : O
       (o.transitive (γ n x) (γ n (γ n x)) (γ m (γ n x)) ((g.each n).again x) (falls_to m n h (γ n x)))
 
   either_order : (m n : ℕ) (x : X) → (m < n) ⊎ (n ≤ m) → γ n (γ m x) ≡ γ (max m n) x
-  either_order m n x (inl h) = let less : m ≤ n = omega arith in smaller_first m n less x ∙ ap (λ k. γ k x) (sym (max-eq_right less))
-  either_order m n x (inr h) = smaller_last n m h x ∙ ap (λ k. γ k x) (sym (max-eq_left h))
+  either_order m n x (inl h) = smaller_first m n (omega (arith, h)) x ∙ ap (λ k. γ k x) (omega (arith, h))
+  either_order m n x (inr h) = smaller_last n m h x ∙ ap (λ k. γ k x) (omega (arith, h))
 
   -- in any order they leave what the largest leaves
   pub largest_decides : (n : ℕ) (ns : List ℕ) (x : X) → in_turn γ (n ∷ ns) x ≡ γ (largest n ns) x
