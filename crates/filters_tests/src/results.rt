@@ -170,11 +170,10 @@ fn no_edges(rt: HostRuntime) -> Result<(), Fail> {
 
 // A path of so many vertices.
 fn long_path(heap: Global, n: u32) -> Result<Vec<Edge>, AllocError> {
-    let mut rows = Vec::new(heap);
-    for second in 1..n {
-        rows.push(edge(second - 1, second))?;
-    }
-    Ok(rows)
+    (0..n)
+        .zip(1..n)
+        .map(|(first, second)| edge(first, second))
+        .collect(heap)
 }
 
 fn at(weights: &[Level], place: usize) -> Option<u16> {
