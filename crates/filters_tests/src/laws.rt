@@ -6,7 +6,6 @@ use graph::Edge;
 use lattice::*;
 use readings::*;
 use refusal::Refusal;
-use std::process::Abort;
 use std::test::Fail;
 
 // Whether the weighting, dilated once, is below the path sheet, and whether it is below the path sheet, eroded once.
@@ -160,24 +159,10 @@ fn alternates_of_falling_sizes(rt: HostRuntime) -> Result<(), Fail> {
     Ok(())
 }
 
-// Checks what a filter leaves of lower edges, and that each is below both its ends.
-fn stays_below(
-    rt: &impl Abort,
-    filter: Filter,
-    vertices: [u16; 5],
-    edges: [u16; 4],
-) -> Result<(), Fail> {
-    let sheet = path_levels([5, 2, 7, 7, 1], [1, 0, 6, 1]);
-    let left = filtered(&[filter], &path(), sheet)?;
-    assert_eq!(rt; left, path_levels(vertices, edges));
-    let ([first, second, third, fourth, fifth], edges) = left;
-    assert!(rt; all_below(&edges, &[first, second, third, fourth]));
-    assert!(rt; all_below(&edges, &[second, third, fourth, fifth]));
-    Ok(())
-}
-
+// What filters leave of lower edges, each below both its ends.
 #[test]
 fn edges_stay_below_ends(rt: HostRuntime) -> Result<(), Fail> {
+    let sheet = path_levels([5, 2, 7, 7, 1], [1, 0, 6, 1]);
     let examples = [
         (d(1), [5, 7, 7, 7, 7], [1, 6, 6, 6]),
         (e(1), [2, 2, 2, 1, 1], [0, 0, 0, 1]),
@@ -186,7 +171,11 @@ fn edges_stay_below_ends(rt: HostRuntime) -> Result<(), Fail> {
         (a(1), [5, 5, 7, 7, 7], [1, 1, 1, 1]),
     ];
     for (filter, vertices, edges) in examples {
-        stays_below(&rt, filter, vertices, edges)?;
+        let left = filtered(&[filter], &path(), sheet)?;
+        assert_eq!(rt; left, path_levels(vertices, edges));
+        let ([first, second, third, fourth, fifth], edges) = left;
+        assert!(rt; all_below(&edges, &[first, second, third, fourth]));
+        assert!(rt; all_below(&edges, &[second, third, fourth, fifth]));
     }
     Ok(())
 }
@@ -226,19 +215,10 @@ fn cut_path(weights: Sheet<Level, 5, 4>) -> Result<Sheet<Presence, 5, 4>, Refusa
     ))
 }
 
-// Checks the path sheet filtered and then cut, and cut and then filtered.
-fn cuts(rt: &impl Abort, filter: Filter, vertices: [u8; 5], edges: [u8; 4]) -> Result<(), Fail> {
-    let result = path_presences(vertices, edges);
-    assert_eq!(rt; cut_path(on_path(&[filter])?)?, result);
-    assert_eq!(rt;
-        filtered(&[filter], &path(), cut_path(on_path(&[])?)?)?,
-        result
-    );
-    Ok(())
-}
-
+// The path sheet filtered and then cut, and cut and then filtered.
 #[test]
 fn filters_commute_with_cuts(rt: HostRuntime) -> Result<(), Fail> {
+    let sheet = cut_path(on_path(&[])?)?;
     let examples = [
         (d(1), [1, 1, 1, 1, 1], [0, 1, 1, 1]),
         (e(1), [0, 0, 0, 0, 0], [0, 0, 0, 0]),
@@ -250,7 +230,9 @@ fn filters_commute_with_cuts(rt: HostRuntime) -> Result<(), Fail> {
         (a(2), [1, 1, 1, 1, 1], [0, 0, 0, 0]),
     ];
     for (filter, vertices, edges) in examples {
-        cuts(&rt, filter, vertices, edges)?;
+        let result = path_presences(vertices, edges);
+        assert_eq!(rt; cut_path(on_path(&[filter])?)?, result);
+        assert_eq!(rt; filtered(&[filter], &path(), sheet)?, result);
     }
     Ok(())
 }
