@@ -42,9 +42,8 @@ nested_opening (suc n) l = between l.ox l.oy l.back (nested_opening n (lawful_ex
 
 nested_falls : (n : ℕ) {X Y : Type 0} {bx : X → X → Type 0} {by : Y → Y → Type 0} {p : Passes X Y} →
     Lawful bx by p → (x : X) → bx (nested (suc n) p x) (nested n p x)
-nested_falls zero {p = p} l x = l.back.down (p.meet_over x) x (l.oy.reflexive (p.meet_over x))
-nested_falls (suc n) {p = p} l x = lower_keeps l.oy l.ox l.back (nested (suc n) (exchanged p) (p.meet_over x)) (nested n (exchanged p) (p.meet_over x))
-    (nested_falls n (lawful_exchanged l) (p.meet_over x))
+nested_falls zero {p = p} l x = l.back.down _ x (l.oy.reflexive _)
+nested_falls (suc n) {p = p} l x = lower_keeps l.oy l.ox l.back _ _ (nested_falls n (lawful_exchanged l) (p.meet_over x))
 
 repeat_shift : {X : Type 0} (f : X → X) (n : ℕ) (x : X) → f (repeat f n x) ≡ repeat f n (f x)
 repeat_shift f zero x = refl
@@ -138,15 +137,15 @@ repeat_adjoint a zero = record { up = λ x y h. h; down = λ x y h. h }
 repeat_adjoint {below = below} {f = f} {g = g} a (suc n) =
     let rest = repeat_adjoint a n in
     record {
-      up = λ x y h. subst (below x) (sym (repeat_shift g n y)) (rest.up x (g y) (a.up (repeat f n x) y h));
-      down = λ x y h. a.down (repeat f n x) y (rest.down x (g y) (subst (below x) (repeat_shift g n y) h));
+      up = λ x y h. subst (below x) (sym (repeat_shift g n y)) (rest.up x (g y) (a.up _ y h));
+      down = λ x y h. a.down _ y (rest.down x (g y) (subst (below x) (repeat_shift g n y) h));
     }
 
 module _ {X Y : Type 0} {bx : X → X → Type 0} {by : Y → Y → Type 0} {p : Passes X Y} (l : Lawful bx by p) where
   round_adjoint : Adjoint bx bx (rounds p).dilation (rounds p).erosion
   round_adjoint = record {
-    up = λ x z h. l.over.up x (p.meet_over z) (l.back.up (p.join_over x) z h);
-    down = λ x z h. l.back.down (p.join_over x) z (l.over.down x (p.meet_over z) h);
+    up = λ x z h. l.over.up x _ (l.back.up _ z h);
+    down = λ x z h. l.back.down _ z (l.over.down x _ h);
   }
 
   pub dilated_adjoint : (n : ℕ) → Adjoint bx bx (dilated (rounds p) n) (eroded (rounds p) n)
@@ -165,14 +164,9 @@ closings l = openings (lawful_dual l)
 pub bounded_rounds : {X Y : Type 0} {bx : X → X → Type 0} {by : Y → Y → Type 0} {p : Passes X Y} →
     Lawful bx by p → Related (λ x y. by y (p.meet_over x)) (rounds p) (rounds (exchanged p))
 bounded_rounds {p = p} l = record {
-  by_dilation = λ x y h. l.back.up (p.join_over (p.join_back y)) (p.join_back (p.join_over x))
-      (lower_keeps l.oy l.ox l.back (p.join_over (p.join_back y)) (p.join_over x)
-      (lower_keeps l.ox l.oy l.over (p.join_back y) x (l.back.down y x h)));
-  by_erosion = λ x y h. upper_keeps l.oy l.ox l.back (p.meet_back y) (p.meet_back (p.meet_over x))
-      (upper_keeps l.ox l.oy l.over y (p.meet_over x) h);
-  by_half_opening = λ x y h. l.oy.transitive (p.join_over (p.meet_back y)) y (p.meet_over (p.join_back (p.meet_over x)))
-      (l.over.down (p.meet_back y) y (l.ox.reflexive (p.meet_back y)))
-      (l.oy.transitive y (p.meet_over x) (p.meet_over (p.join_back (p.meet_over x))) h (unit l.oy l.ox l.back (p.meet_over x)));
-  by_half_closing = λ x y h. upper_keeps l.oy l.ox l.back (p.join_back y) (p.meet_back (p.join_over x))
-      (l.ox.transitive (p.join_back y) x (p.meet_back (p.join_over x)) (l.back.down y x h) (unit l.ox l.oy l.over x));
+  by_dilation = λ x y h. l.back.up _ _ (lower_keeps l.oy l.ox l.back _ _ (lower_keeps l.ox l.oy l.over _ _ (l.back.down y x h)));
+  by_erosion = λ x y h. upper_keeps l.oy l.ox l.back _ _ (upper_keeps l.ox l.oy l.over _ _ h);
+  by_half_opening = λ x y h. l.oy.transitive _ _ _ (l.over.down _ y (l.ox.reflexive _))
+      (l.oy.transitive _ _ _ h (unit l.oy l.ox l.back (p.meet_over x)));
+  by_half_closing = λ x y h. upper_keeps l.oy l.ox l.back _ _ (l.ox.transitive _ _ _ (l.back.down y x h) (unit l.ox l.oy l.over x));
 }
