@@ -2,7 +2,6 @@
 
 use crate::support::*;
 use filters::Filter;
-use graph::Edge;
 use lattice::*;
 use readings::*;
 use refusal::Refusal;
