@@ -4,9 +4,8 @@ use Rattle.lattice.specs.Lattices.{Operations, Lattice}
 use Rattle.lattice.specs.LatticesLemmas.{turned_order, turned_lattice}
 use Rattle.graph.specs.Shapes.{Shape, Accepted}
 use Rattle.filters.specs.Relations.{filter, EachBelow, EdgesBelowEnds}
-use Rattle.algebra.specs.Laws.{DilationAdjoint, OpeningsAbsorb, ClosingsAbsorb, AlternatesAbsorb, EdgesStayBelowEnds}
+use Rattle.algebra.specs.Laws.{in_turn, largest, last_of, DilationAdjoint, OpeningsAbsorb, ClosingsAbsorb, AlternatesAbsorb, EdgesStayBelowEnds}
 use Rattle.filters.specs.Filters.{Passes, exchanged, rounds, dilated, eroded, filter_by}
-use Rattle.algebra.specs.Laws.{in_turn, largest, last_of}
 use Rattle.filters.specs.Weightings.{Weighting, weighting, Fits, passes, vertex_rounds, edge_rounds, filtered}
 use Rattle.filters.specs.declared.families.Family.{Family}
 use Rattle.filters.specs.declared.families.Family.TheVariants.{Dilation, Erosion, Opening, Closing, Alternate}

@@ -33,9 +33,9 @@ row_passes k g = record {
 row_order : {K : Type 0} {below : K → K → Type 0} → Order below → (n : ℕ) → Order (RowBelow below n)
 row_order {K = K} {below = below} o n = record {
   reflexive = λ x i d h. o.reflexive (get_or x.0 i d);
-  transitive = λ x y z xy yz i d h. o.transitive (get_or x.0 i d) (get_or y.0 i d) (get_or z.0 i d) (xy i d h) (yz i d h);
+  transitive = λ x y z xy yz i d h. o.transitive _ _ _ (xy i d h) (yz i d h);
   antisymmetric = λ x y xy yx. Σ_prop_path (λ xs. ℕ_set (length xs) n) (same_lists x.0 y.0 (x.1 ∙ sym y.1)
-      (λ i d h. let within : i < n = omega (arith, x.1) in o.antisymmetric (get_or x.0 i d) (get_or y.0 i d) (xy i d within) (yx i d within)));
+      (λ i d h. let within : i < n = omega (arith, x.1) in o.antisymmetric _ _ (xy i d within) (yx i d within)));
 }
 
 module _ {K : Type 0} {below : K → K → Type 0} {k : Operations K} (l : Lattice below k) (g : Shape) (accepted : Accepted g) where

@@ -1,6 +1,8 @@
 -- A map that keeps both ends, joins and meets commutes with the passes, and so with every filter. Assumes nothing.
 use Rattle.std.proofs.Common.{◌≡◌, ℕ, Bool, true, false, cond, List, [], ◌∷◌, map, get_or, sym, refl, ap, ◌∙◌, ap₂}
+use mathlib.Core.Path.{fun_ext}
 use lib.ListN.{get_or-map}
+use Rattle.std.proofs.lemmas.Simd.{map-map}
 use Rattle.std.specs.List.{range_with_len}
 use Rattle.lattice.specs.Lattices.{Operations}
 use Rattle.lattice.specs.Morphisms.{Morphism}
@@ -11,10 +13,6 @@ use Rattle.filters.specs.Passes.{Side, joins, meets, touches, over_edges_at, pas
 use Rattle.filters.specs.Weightings.{passes, weighting}
 use Rattle.algebra.proofs.Nesting.{Carried, carried_exchanged, filter_carried}
 
-map_after : {X Y Z : Type 0} (h : Y → Z) (f : X → Y) (g : X → Z) → ((x : X) → h (f x) ≡ g x) → (xs : List X) → map h (map f xs) ≡ map g xs
-map_after h f g same [] = refl
-map_after h f g same (x ∷ xs) = ap₂ ◌∷◌ (same x) (map_after h f g same xs)
-
 -- one side, joins or meets
 module _ {K L : Type 0} (read : K → L) (s : Side K) (t : Side L) (neutral : read s.neutral ≡ t.neutral)
     (combines : (x y : K) → read (s.combine x y) ≡ t.combine (read x) (read y)) where
@@ -22,7 +20,8 @@ module _ {K L : Type 0} (read : K → L) (s : Side K) (t : Side L) (neutral : re
   read_at xs i = sym (get_or-map read xs i s.neutral) ∙ ap (get_or (map read xs) i) neutral
 
   to_edges_read : (g : Shape) (xs : List K) → map read (pass_to_edges s g xs) ≡ pass_to_edges t g (map read xs)
-  to_edges_read g xs = map_after read _ _ (λ e. combines _ _ ∙ ap₂ t.combine (read_at xs e.first) (read_at xs e.second)) g.edges
+  to_edges_read g xs = map-map read _ g.edges
+      ∙ ap (λ f. map f g.edges) (fun_ext (λ e. combines _ _ ∙ ap₂ t.combine (read_at xs e.first) (read_at xs e.second)))
 
   step_read : (b : Bool) (x y : K) → read (cond b (s.combine x y) x) ≡ cond b (t.combine (read x) (read y)) (read x)
   step_read true x y = combines x y
@@ -36,7 +35,8 @@ module _ {K L : Type 0} (read : K → L) (s : Side K) (t : Side L) (neutral : re
 
   to_vertices_read : (g : Shape) (ys : List K) → map read (pass_to_vertices s g ys) ≡ pass_to_vertices t g (map read ys)
   to_vertices_read g ys =
-      map_after read _ _ (λ v. over_edges_read v g.edges ys s.neutral ∙ ap (λ z. over_edges_at t v z g.edges (map read ys)) neutral) (range_with_len 0 g.order)
+      map-map read _ (range_with_len 0 g.order)
+      ∙ ap (λ f. map f (range_with_len 0 g.order)) (fun_ext (λ v. over_edges_read v g.edges ys s.neutral ∙ ap (λ z. over_edges_at t v z g.edges (map read ys)) neutral))
 
 pub filters_commute : {K L : Type 0} (k : Operations K) (l : Operations L) (read : K → L) → Morphism k l read → FiltersCommute k l read
 filters_commute k l read m g f w =

@@ -26,7 +26,7 @@ module _ {K : Type 0} {below : K → K → Type 0} {k : Operations K} (l : Latti
     -- the weight of an end of an edge at v is below the dilation at v
     below_dilation : (d : K) (j : ℕ) (e : Edge) → Stands g.edges j e → End e v → (u : ℕ) (x : K) → End e u → Stands xs u x → below x (get_or (pass_to_vertices (joins k) g edges) v d)
     below_dilation d j e s at_v u x at_u w =
-        l.order.transitive x (over_ends (joins k) xs e) _ (end_below l xs e u x at_u w)
+        l.order.transitive _ _ _ (end_below l xs e u x at_u w)
         ((vertex_suprema l g accepted.within edges v d here).above (over_ends (joins k) xs e)
         record { place = j; edge = e; is_edge = s; end = at_v; weight = at_place j e s })
 

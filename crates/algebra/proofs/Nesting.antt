@@ -42,9 +42,8 @@ nested_opening (suc n) l = between l.ox l.oy l.back (nested_opening n (lawful_ex
 
 nested_falls : (n : ℕ) {X Y : Type 0} {bx : X → X → Type 0} {by : Y → Y → Type 0} {p : Passes X Y} →
     Lawful bx by p → (x : X) → bx (nested (suc n) p x) (nested n p x)
-nested_falls zero {p = p} l x = l.back.down (p.meet_over x) x (l.oy.reflexive (p.meet_over x))
-nested_falls (suc n) {p = p} l x = lower_keeps l.oy l.ox l.back (nested (suc n) (exchanged p) (p.meet_over x)) (nested n (exchanged p) (p.meet_over x))
-    (nested_falls n (lawful_exchanged l) (p.meet_over x))
+nested_falls zero {p = p} l x = l.back.down _ x (l.oy.reflexive _)
+nested_falls (suc n) {p = p} l x = lower_keeps l.oy l.ox l.back _ _ (nested_falls n (lawful_exchanged l) (p.meet_over x))
 
 repeat_shift : {X : Type 0} (f : X → X) (n : ℕ) (x : X) → f (repeat f n x) ≡ repeat f n (f x)
 repeat_shift f zero x = refl
@@ -75,41 +74,38 @@ module _ {X Y : Type 0} (p : Passes X Y) where
   opened_nested n x = rounds_nested (n / 2) (n % 2) (omega arith) x
       ∙ ap (λ k. nested k p x) (twice_and_is (n % 2) (n / 2) ∙ omega arith)
 
+-- f and g, done to both sides, keep that R holds of them
+abbrev pub Keeps : {X Y : Type 0} → (X → Y → Type 0) → (X → X) → (Y → Y) → Type 0
+Keeps {X} {Y} R f g = (x : X) (y : Y) → R x y → R (f x) (g y)
+
 -- what two rounds keep between two sorts of weights
 pub record Related {X Y : Type 0} (R : X → Y → Type 0) (r : Rounds X) (s : Rounds Y) : Type 0 where
-  pub by_dilation : (x : X) (y : Y) → R x y → R (r.dilation x) (s.dilation y)
-  pub by_erosion : (x : X) (y : Y) → R x y → R (r.erosion x) (s.erosion y)
-  pub by_half_opening : (x : X) (y : Y) → R x y → R (r.half_opening x) (s.half_opening y)
-  pub by_half_closing : (x : X) (y : Y) → R x y → R (r.half_closing x) (s.half_closing y)
+  pub by_dilation : Keeps R r.dilation s.dilation
+  pub by_erosion : Keeps R r.erosion s.erosion
+  pub by_half_opening : Keeps R r.half_opening s.half_opening
+  pub by_half_closing : Keeps R r.half_closing s.half_closing
 
-repeat_related : {X Y : Type 0} (R : X → Y → Type 0) (f : X → X) (g : Y → Y) → ((x : X) (y : Y) → R x y → R (f x) (g y)) →
-    (n : ℕ) (x : X) (y : Y) → R x y → R (repeat f n x) (repeat g n y)
-repeat_related R f g step zero x y h = h
-repeat_related R f g step (suc n) x y h = step (repeat f n x) (repeat g n y) (repeat_related R f g step n x y h)
+repeat_related : {X Y : Type 0} {R : X → Y → Type 0} (f : X → X) (g : Y → Y) → Keeps R f g → (n : ℕ) → Keeps R (repeat f n) (repeat g n)
+repeat_related f g step zero x y h = h
+repeat_related f g step (suc n) x y h = step _ _ (repeat_related f g step n x y h)
 
 -- every filter keeps it too
 module _ {X Y : Type 0} {R : X → Y → Type 0} {r : Rounds X} {s : Rounds Y} (k : Related R r s) where
-  dilated_related : (n : ℕ) (x : X) (y : Y) → R x y → R (dilated r n x) (dilated s n y)
-  dilated_related n x y h = repeat_related R r.dilation s.dilation k.by_dilation n x y h
+  opened_related : (n : ℕ) → Keeps R (opened r n) (opened s n)
+  opened_related n x y h = repeat_related _ _ k.by_dilation (n / 2) _ _
+      (repeat_related _ _ k.by_half_opening (n % 2) _ _ (repeat_related _ _ k.by_erosion (n / 2) x y h))
 
-  eroded_related : (n : ℕ) (x : X) (y : Y) → R x y → R (eroded r n x) (eroded s n y)
-  eroded_related n x y h = repeat_related R r.erosion s.erosion k.by_erosion n x y h
+  closed_related : (n : ℕ) → Keeps R (closed r n) (closed s n)
+  closed_related n x y h = repeat_related _ _ k.by_erosion (n / 2) _ _
+      (repeat_related _ _ k.by_half_closing (n % 2) _ _ (repeat_related _ _ k.by_dilation (n / 2) x y h))
 
-  opened_related : (n : ℕ) (x : X) (y : Y) → R x y → R (opened r n x) (opened s n y)
-  opened_related n x y h = dilated_related (n / 2) _ _
-      (repeat_related R r.half_opening s.half_opening k.by_half_opening (n % 2) _ _ (eroded_related (n / 2) x y h))
-
-  closed_related : (n : ℕ) (x : X) (y : Y) → R x y → R (closed r n x) (closed s n y)
-  closed_related n x y h = eroded_related (n / 2) _ _
-      (repeat_related R r.half_closing s.half_closing k.by_half_closing (n % 2) _ _ (dilated_related (n / 2) x y h))
-
-  alternated_related : (n : ℕ) (x : X) (y : Y) → R x y → R (alternated r n x) (alternated s n y)
+  alternated_related : (n : ℕ) → Keeps R (alternated r n) (alternated s n)
   alternated_related zero x y h = h
   alternated_related (suc n) x y h = opened_related (suc n) _ _ (closed_related (suc n) _ _ (alternated_related n x y h))
 
-  pub filter_related : (f : Family) (n : ℕ) (x : X) (y : Y) → R x y → R (filter_by r f n x) (filter_by s f n y)
-  filter_related Dilation n = dilated_related n
-  filter_related Erosion n = eroded_related n
+  pub filter_related : (f : Family) (n : ℕ) → Keeps R (filter_by r f n) (filter_by s f n)
+  filter_related Dilation n = repeat_related _ _ k.by_dilation n
+  filter_related Erosion n = repeat_related _ _ k.by_erosion n
   filter_related OpenFamily n = opened_related n
   filter_related Closing n = closed_related n
   filter_related Alternate n = alternated_related n
@@ -141,15 +137,15 @@ repeat_adjoint a zero = record { up = λ x y h. h; down = λ x y h. h }
 repeat_adjoint {below = below} {f = f} {g = g} a (suc n) =
     let rest = repeat_adjoint a n in
     record {
-      up = λ x y h. subst (below x) (sym (repeat_shift g n y)) (rest.up x (g y) (a.up (repeat f n x) y h));
-      down = λ x y h. a.down (repeat f n x) y (rest.down x (g y) (subst (below x) (repeat_shift g n y) h));
+      up = λ x y h. subst (below x) (sym (repeat_shift g n y)) (rest.up x (g y) (a.up _ y h));
+      down = λ x y h. a.down _ y (rest.down x (g y) (subst (below x) (repeat_shift g n y) h));
     }
 
 module _ {X Y : Type 0} {bx : X → X → Type 0} {by : Y → Y → Type 0} {p : Passes X Y} (l : Lawful bx by p) where
   round_adjoint : Adjoint bx bx (rounds p).dilation (rounds p).erosion
   round_adjoint = record {
-    up = λ x z h. l.over.up x (p.meet_over z) (l.back.up (p.join_over x) z h);
-    down = λ x z h. l.back.down (p.join_over x) z (l.over.down x (p.meet_over z) h);
+    up = λ x z h. l.over.up x _ (l.back.up _ z h);
+    down = λ x z h. l.back.down _ z (l.over.down x _ h);
   }
 
   pub dilated_adjoint : (n : ℕ) → Adjoint bx bx (dilated (rounds p) n) (eroded (rounds p) n)
@@ -168,14 +164,9 @@ closings l = openings (lawful_dual l)
 pub bounded_rounds : {X Y : Type 0} {bx : X → X → Type 0} {by : Y → Y → Type 0} {p : Passes X Y} →
     Lawful bx by p → Related (λ x y. by y (p.meet_over x)) (rounds p) (rounds (exchanged p))
 bounded_rounds {p = p} l = record {
-  by_dilation = λ x y h. l.back.up (p.join_over (p.join_back y)) (p.join_back (p.join_over x))
-      (lower_keeps l.oy l.ox l.back (p.join_over (p.join_back y)) (p.join_over x)
-      (lower_keeps l.ox l.oy l.over (p.join_back y) x (l.back.down y x h)));
-  by_erosion = λ x y h. upper_keeps l.oy l.ox l.back (p.meet_back y) (p.meet_back (p.meet_over x))
-      (upper_keeps l.ox l.oy l.over y (p.meet_over x) h);
-  by_half_opening = λ x y h. l.oy.transitive (p.join_over (p.meet_back y)) y (p.meet_over (p.join_back (p.meet_over x)))
-      (l.over.down (p.meet_back y) y (l.ox.reflexive (p.meet_back y)))
-      (l.oy.transitive y (p.meet_over x) (p.meet_over (p.join_back (p.meet_over x))) h (unit l.oy l.ox l.back (p.meet_over x)));
-  by_half_closing = λ x y h. upper_keeps l.oy l.ox l.back (p.join_back y) (p.meet_back (p.join_over x))
-      (l.ox.transitive (p.join_back y) x (p.meet_back (p.join_over x)) (l.back.down y x h) (unit l.ox l.oy l.over x));
+  by_dilation = λ x y h. l.back.up _ _ (lower_keeps l.oy l.ox l.back _ _ (lower_keeps l.ox l.oy l.over _ _ (l.back.down y x h)));
+  by_erosion = λ x y h. upper_keeps l.oy l.ox l.back _ _ (upper_keeps l.ox l.oy l.over _ _ h);
+  by_half_opening = λ x y h. l.oy.transitive _ _ _ (l.over.down _ y (l.ox.reflexive _))
+      (l.oy.transitive _ _ _ h (unit l.oy l.ox l.back (p.meet_over x)));
+  by_half_closing = λ x y h. upper_keeps l.oy l.ox l.back _ _ (l.ox.transitive _ _ _ (l.back.down y x h) (unit l.ox l.oy l.over x));
 }

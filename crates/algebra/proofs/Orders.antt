@@ -1,8 +1,7 @@
 -- Openings, closings and adjunctions of ordered collections. Assumes nothing.
 -- What holds of closings is what holds of openings where the order is turned.
-use Rattle.std.proofs.Common.{◌≡◌, ℕ, zero, suc, ◌<◌, ◌≤◌, max, ◌⊎◌, List, [], ◌∷◌, sym, refl, ap, ◌∙◌, subst, inl, inr, arith}
+use Rattle.std.proofs.Common.{◌≡◌, ℕ, zero, suc, ◌<◌, ◌≤◌, max, ◌⊎◌, List, [], ◌∷◌, refl, ap, ◌∙◌, subst, inl, inr, arith}
 use native.Mathlib.Decide.{le_ind}
-use native.Mathlib.Nat.{max-eq_left, max-eq_right}
 use Rattle.std.proofs.lemmas.Bool.{cases_lt}
 use Rattle.filters.specs.Filters.{alternating}
 use Rattle.algebra.specs.Laws.{in_turn, largest, last_of, NeverFalls}
@@ -25,10 +24,10 @@ turned_adjoint a = record { up = λ y x h. a.down x y h; down = λ y x h. a.up x
 
 module _ {X Y : Type 0} {bx : X → X → Type 0} {by : Y → Y → Type 0} {δ : X → Y} {ε : Y → X} (ox : Order bx) (oy : Order by) (a : Adjoint bx by δ ε) where
   pub unit : (x : X) → bx x (ε (δ x))
-  unit x = a.up x (δ x) (oy.reflexive (δ x))
+  unit x = a.up x _ (oy.reflexive _)
 
   pub lower_keeps : (x z : X) → bx x z → by (δ x) (δ z)
-  lower_keeps x z h = a.down x (δ z) (ox.transitive x z (ε (δ z)) h (unit z))
+  lower_keeps x z h = a.down x _ (ox.transitive _ _ _ h (unit z))
 
 pub upper_keeps : {X Y : Type 0} {bx : X → X → Type 0} {by : Y → Y → Type 0} {δ : X → Y} {ε : Y → X} →
     Order bx → Order by → Adjoint bx by δ ε → (y z : Y) → by y z → bx (ε y) (ε z)
@@ -46,10 +45,9 @@ unchanged o = record { keeps = λ x y h. h; lowers = o.reflexive; again = o.refl
 pub between : {X Y : Type 0} {bx : X → X → Type 0} {by : Y → Y → Type 0} {δ : Y → X} {ε : X → Y} {γ : Y → Y} →
     Order bx → Order by → Adjoint by bx δ ε → Opening by γ → Opening bx (λ x. δ (γ (ε x)))
 between {δ = δ} {ε = ε} {γ = γ} ox oy a g = record {
-  keeps = λ x z h. lower_keeps oy ox a (γ (ε x)) (γ (ε z)) (g.keeps (ε x) (ε z) (upper_keeps oy ox a x z h));
-  lowers = λ x. a.down (γ (ε x)) x (g.lowers (ε x));
-  again = λ x. lower_keeps oy ox a (γ (ε x)) (γ (ε (δ (γ (ε x))))) (oy.transitive (γ (ε x)) (γ (γ (ε x))) (γ (ε (δ (γ (ε x)))))
-      (g.again (ε x)) (g.keeps (γ (ε x)) (ε (δ (γ (ε x)))) (unit oy ox a (γ (ε x)))));
+  keeps = λ x z h. lower_keeps oy ox a _ _ (g.keeps _ _ (upper_keeps oy ox a x z h));
+  lowers = λ x. a.down _ x (g.lowers _);
+  again = λ x. lower_keeps oy ox a _ _ (oy.transitive _ _ _ (g.again (ε x)) (g.keeps _ _ (unit oy ox a (γ (ε x)))));
 }
 
 -- a family of openings, each below the one before
@@ -60,20 +58,20 @@ pub record Openings {X : Type 0} (below : X → X → Type 0) (γ : ℕ → X �
 module _ {X : Type 0} {below : X → X → Type 0} {γ : ℕ → X → X} (o : Order below) (g : Openings below γ) where
   falls_to : (m n : ℕ) → m ≤ n → (x : X) → below (γ n x) (γ m x)
   falls_to m n h x =
-      le_ind (λ k. below (γ k x) (γ m x)) (o.reflexive (γ m x)) (λ k _ lower. o.transitive (γ (suc k) x) (γ k x) (γ m x) (g.falls k x) lower) n h
+      le_ind (λ k. below (γ k x) (γ m x)) (o.reflexive (γ m x)) (λ k _ lower. o.transitive _ _ _ (g.falls k x) lower) n h
 
   -- a smaller opening before a larger, and after it, plays no part
   pub smaller_first : (m n : ℕ) → m ≤ n → (x : X) → γ n (γ m x) ≡ γ n x
-  smaller_first m n h x = o.antisymmetric (γ n (γ m x)) (γ n x) ((g.each n).keeps (γ m x) x ((g.each m).lowers x))
-      (o.transitive (γ n x) (γ n (γ n x)) (γ n (γ m x)) ((g.each n).again x) ((g.each n).keeps (γ n x) (γ m x) (falls_to m n h x)))
+  smaller_first m n h x = o.antisymmetric _ _ ((g.each n).keeps _ _ ((g.each m).lowers x))
+      (o.transitive _ _ _ ((g.each n).again x) ((g.each n).keeps _ _ (falls_to m n h x)))
 
   pub smaller_last : (m n : ℕ) → m ≤ n → (x : X) → γ m (γ n x) ≡ γ n x
-  smaller_last m n h x = o.antisymmetric (γ m (γ n x)) (γ n x) ((g.each m).lowers (γ n x))
-      (o.transitive (γ n x) (γ n (γ n x)) (γ m (γ n x)) ((g.each n).again x) (falls_to m n h (γ n x)))
+  smaller_last m n h x = o.antisymmetric _ _ ((g.each m).lowers (γ n x))
+      (o.transitive _ _ _ ((g.each n).again x) (falls_to m n h (γ n x)))
 
   either_order : (m n : ℕ) (x : X) → (m < n) ⊎ (n ≤ m) → γ n (γ m x) ≡ γ (max m n) x
-  either_order m n x (inl h) = let less : m ≤ n = omega arith in smaller_first m n less x ∙ ap (λ k. γ k x) (sym (max-eq_right less))
-  either_order m n x (inr h) = smaller_last n m h x ∙ ap (λ k. γ k x) (sym (max-eq_left h))
+  either_order m n x (inl h) = smaller_first m n (omega (arith, h)) x ∙ ap (λ k. γ k x) (omega (arith, h))
+  either_order m n x (inr h) = smaller_last n m h x ∙ ap (λ k. γ k x) (omega (arith, h))
 
   -- in any order they leave what the largest leaves
   pub largest_decides : (n : ℕ) (ns : List ℕ) (x : X) → in_turn γ (n ∷ ns) x ≡ γ (largest n ns) x
@@ -87,35 +85,32 @@ both γ φ n x = γ n (φ n x)
 -- Closings φ that rise and openings γ that fall, one after the other.
 module _ {X : Type 0} {below : X → X → Type 0} {γ φ : ℕ → X → X} (o : Order below) (g : Openings below γ) (f : Openings (turned below) φ) where
   both_keeps : (n : ℕ) (x y : X) → below x y → below (both γ φ n x) (both γ φ n y)
-  both_keeps n x y h = (g.each n).keeps (φ n x) (φ n y) ((f.each n).keeps y x h)
+  both_keeps n x y h = (g.each n).keeps _ _ ((f.each n).keeps y x h)
 
   -- a smaller pair first leaves no more
   both_lowers : (m n : ℕ) → m ≤ n → (x : X) → below (both γ φ n (both γ φ m x)) (both γ φ n x)
   both_lowers m n h x = subst (λ y. below (both γ φ n (both γ φ m x)) (γ n y)) (smaller_first (turned_order o) f m n h x)
-      ((g.each n).keeps (φ n (both γ φ m x)) (φ n (φ m x)) ((f.each n).keeps (φ m x) (both γ φ m x) ((g.each m).lowers (φ m x))))
+      ((g.each n).keeps _ _ ((f.each n).keeps _ _ ((g.each m).lowers (φ m x))))
 
   -- and last no less
   both_raises : (m n : ℕ) → m ≤ n → (x : X) → below (both γ φ n x) (both γ φ m (both γ φ n x))
   both_raises m n h x = subst (λ y. below y (both γ φ m (both γ φ n x))) (smaller_last o g m n h (φ n x))
-      ((g.each m).keeps (both γ φ n x) (φ m (both γ φ n x)) ((f.each m).lowers (both γ φ n x)))
+      ((g.each m).keeps _ _ ((f.each m).lowers (both γ φ n x)))
 
   lower : (n k : ℕ) → k ≤ n → (x : X) → below (both γ φ n (alternating γ φ k x)) (both γ φ n x)
   lower n zero h x = o.reflexive (both γ φ n x)
-  lower n (suc k) h x = o.transitive (both γ φ n (alternating γ φ (suc k) x)) (both γ φ n (alternating γ φ k x)) (both γ φ n x)
-      (both_lowers (suc k) n h (alternating γ φ k x)) (lower n k (omega arith) x)
+  lower n (suc k) h x = o.transitive _ _ _ (both_lowers (suc k) n h (alternating γ φ k x)) (lower n k (omega arith) x)
 
   raise : (n k : ℕ) → k ≤ n → (x : X) → below (both γ φ n x) (alternating γ φ k (both γ φ n x))
   raise n zero h x = o.reflexive (both γ φ n x)
-  raise n (suc k) h x = o.transitive (both γ φ n x) (both γ φ (suc k) (both γ φ n x)) (alternating γ φ (suc k) (both γ φ n x))
-      (both_raises (suc k) n h x) (both_keeps (suc k) (both γ φ n x) (alternating γ φ k (both γ φ n x)) (raise n k (omega arith) x))
+  raise n (suc k) h x = o.transitive _ _ _ (both_raises (suc k) n h x) (both_keeps (suc k) _ _ (raise n k (omega arith) x))
 
   pub alternating_again : (n : ℕ) (x : X) → alternating γ φ n (alternating γ φ n x) ≡ alternating γ φ n x
   alternating_again zero x = refl
   alternating_again (suc n) x =
       let once : X = alternating γ φ (suc n) x in
-      o.antisymmetric (alternating γ φ (suc n) once) once
-      (o.transitive (alternating γ φ (suc n) once) (both γ φ (suc n) once) once
-      (lower (suc n) n (omega arith) once) (both_lowers (suc n) (suc n) (omega arith) (alternating γ φ n x)))
+      o.antisymmetric _ _
+      (o.transitive _ _ _ (lower (suc n) n (omega arith) once) (both_lowers (suc n) (suc n) (omega arith) (alternating γ φ n x)))
       (raise (suc n) (suc n) (omega arith) (alternating γ φ n x))
 
   pub alternating_absorbs : (m n : ℕ) → m ≤ n → (x : X) → alternating γ φ n (alternating γ φ m x) ≡ alternating γ φ n x

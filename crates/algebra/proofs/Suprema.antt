@@ -56,15 +56,14 @@ module _ {K : Type 0} {below : K → K → Type 0} {k : Operations K} (l : Latti
     start_below : (es : List Edge) (ys : List K) (x : K) → below x (over_edges_at (joins k) v x es ys)
     start_below [] ys x = l.order.reflexive x
     start_below (e ∷ es) [] x = l.order.reflexive x
-    start_below (e ∷ es) (y ∷ ys) x =
-        l.order.transitive x (cond (touches e v) (k.join x y) x) _ (raised (touches e v) x y) (start_below es ys (cond (touches e v) (k.join x y) x))
+    start_below (e ∷ es) (y ∷ ys) x = l.order.transitive _ _ _ (raised (touches e v) x y) (start_below es ys _)
 
     pub edge_below : (es : List Edge) (ys : List K) (x : K) (j : ℕ) (e : Edge) (y : K) → Stands es j e → End e v → Stands ys j y → below y (over_edges_at (joins k) v x es ys)
     edge_below [] ys x j e y s t u = absurd (omega (arith, s.0))
     edge_below (d ∷ es) [] x j e y s t u = absurd (omega (arith, u.0))
     edge_below (d ∷ es) (z ∷ ys) x zero e y s t u =
         let here : below z (over_edges_at (joins k) v x (d ∷ es) (z ∷ ys)) =
-        l.order.transitive z (cond (touches d v) (k.join x z) x) _ (taken (touches d v) x z (end_touches d v (subst (λ f. End f v) (sym s.1) t))) (start_below es ys (cond (touches d v) (k.join x z) x)) in
+        l.order.transitive _ _ _ (taken (touches d v) x z (end_touches d v (subst (λ f. End f v) (sym s.1) t))) (start_below es ys _) in
         subst (λ w. below w (over_edges_at (joins k) v x (d ∷ es) (z ∷ ys))) u.1 here
     edge_below (d ∷ es) (z ∷ ys) x (suc j) e y s t u =
         edge_below es ys (cond (touches d v) (k.join x z) x) j e y (omega (arith, s.0), s.1) t (omega (arith, u.0), u.1)

@@ -7,6 +7,7 @@ ghost use Rattle.filters.specs.Weightings.{weighting, fits};
 use graph::Graph;
 
 /// Whether there are as many weights as the graph has vertices and edges.
+// Kept with single slices, here and below, since callers hold them taken apart.
 pub fn fits<K>(graph: &Graph, vertices: &[K], edges: &[K]) -> bool
     ensures { result ≡ fits (shape_of graph.now) (weighting vertices.now edges.now) }
 {

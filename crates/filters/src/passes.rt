@@ -91,6 +91,8 @@ fn to_vertices<S: Semilattice<K>, K: Copy>(
     Ok(())
 }
 
+// The four passes are one line of a generic function each, and kept, since each has a name of its own in the field.
+
 /// Gives each edge the join of the weights of its ends. Refused where a buffer has the wrong length; then no weight changes.
 pub fn join_to_edges<K: Kind>(graph: &Graph, vertices: &[K], edges: &mut [K]) -> Result<(), Refusal>
     ensures { passed (answer result) edges.new ≡ to_edges_call (joins K.operations) (shape_of graph.now) vertices.now edges.old }

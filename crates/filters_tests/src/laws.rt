@@ -2,15 +2,13 @@
 
 use crate::support::*;
 use filters::Filter;
-use graph::Edge;
 use lattice::*;
 use readings::*;
 use refusal::Refusal;
-use std::process::Abort;
 use std::test::Fail;
 
 // Whether the weighting, dilated once, is below the path sheet, and whether it is below the path sheet, eroded once.
-fn within_path(weights: ([Level; 5], [Level; 4])) -> Result<(bool, bool), Refusal> {
+fn within_path(weights: Sheet<Level, 5, 4>) -> Result<(bool, bool), Refusal> {
     let (vertices, edges) = path_levels([5, 2, 7, 7, 1], [2, 2, 7, 1]);
     let (dilated_vertices, dilated_edges) = filtered(&[d(1)], &path(), weights)?;
     let (eroded_vertices, eroded_edges) = on_path(&[e(1)])?;
@@ -71,10 +69,10 @@ fn openings_absorb(rt: HostRuntime) -> Result<(), Fail> {
     check_examples(
         &rt,
         &[
-            (&[O1], [2, 2, 7, 7, 1], [2, 2, 2, 1]),
-            (&[O1, O2], [2, 2, 2, 2, 1], [2, 2, 2, 1]),
-            (&[O1, O2, O1], [2, 2, 2, 2, 1], [2, 2, 2, 1]),
-            (&[O2], [2, 2, 2, 2, 1], [2, 2, 2, 1]),
+            (&[o(1)], [2, 2, 7, 7, 1], [2, 2, 2, 1]),
+            (&[o(1), o(2)], [2, 2, 2, 2, 1], [2, 2, 2, 1]),
+            (&[o(1), o(2), o(1)], [2, 2, 2, 2, 1], [2, 2, 2, 1]),
+            (&[o(2)], [2, 2, 2, 2, 1], [2, 2, 2, 1]),
         ],
     )
 }
@@ -94,10 +92,10 @@ fn closings_absorb(rt: HostRuntime) -> Result<(), Fail> {
     check_examples(
         &rt,
         &[
-            (&[C1], [5, 5, 7, 7, 7], [2, 2, 7, 1]),
-            (&[C1, C3], [7, 7, 7, 7, 7], [2, 2, 7, 7]),
-            (&[C1, C3, C2], [7, 7, 7, 7, 7], [2, 2, 7, 7]),
-            (&[C3], [7, 7, 7, 7, 7], [2, 2, 7, 7]),
+            (&[c(1)], [5, 5, 7, 7, 7], [2, 2, 7, 1]),
+            (&[c(1), c(3)], [7, 7, 7, 7, 7], [2, 2, 7, 7]),
+            (&[c(1), c(3), c(2)], [7, 7, 7, 7, 7], [2, 2, 7, 7]),
+            (&[c(3)], [7, 7, 7, 7, 7], [2, 2, 7, 7]),
         ],
     )
 }
@@ -109,11 +107,11 @@ fn what_does_not_absorb(rt: HostRuntime) -> Result<(), Fail> {
     check_examples(
         &rt,
         &[
-            (&[E1, E2], [2, 1, 1, 1, 1], [1, 1, 1, 1]),
-            (&[E3], [2, 1, 1, 1, 1], [1, 1, 1, 1]),
-            (&[E2], [2, 2, 1, 1, 1], [2, 1, 1, 1]),
-            (&[O1, C1], [2, 2, 7, 7, 7], [2, 2, 2, 1]),
-            (&[C1, O1], [5, 5, 7, 7, 7], [2, 2, 2, 1]),
+            (&[e(1), e(2)], [2, 1, 1, 1, 1], [1, 1, 1, 1]),
+            (&[e(3)], [2, 1, 1, 1, 1], [1, 1, 1, 1]),
+            (&[e(2)], [2, 2, 1, 1, 1], [2, 1, 1, 1]),
+            (&[o(1), c(1)], [2, 2, 7, 7, 7], [2, 2, 2, 1]),
+            (&[c(1), o(1)], [5, 5, 7, 7, 7], [2, 2, 2, 1]),
         ],
     )
 }
@@ -123,12 +121,12 @@ fn alternates_absorb(rt: HostRuntime) -> Result<(), Fail> {
     check_examples(
         &rt,
         &[
-            (&[A1], [5, 5, 7, 7, 7], [2, 2, 2, 1]),
-            (&[A1, A2], [5, 5, 7, 7, 7], [2, 2, 2, 2]),
-            (&[A2], [5, 5, 7, 7, 7], [2, 2, 2, 2]),
-            (&[A1, A2, A3], [7, 7, 7, 7, 7], [2, 2, 2, 2]),
-            (&[A3], [7, 7, 7, 7, 7], [2, 2, 2, 2]),
-            (&[A2, A2, A3], [7, 7, 7, 7, 7], [2, 2, 2, 2]),
+            (&[a(1)], [5, 5, 7, 7, 7], [2, 2, 2, 1]),
+            (&[a(1), a(2)], [5, 5, 7, 7, 7], [2, 2, 2, 2]),
+            (&[a(2)], [5, 5, 7, 7, 7], [2, 2, 2, 2]),
+            (&[a(1), a(2), a(3)], [7, 7, 7, 7, 7], [2, 2, 2, 2]),
+            (&[a(3)], [7, 7, 7, 7, 7], [2, 2, 2, 2]),
+            (&[a(2), a(2), a(3)], [7, 7, 7, 7, 7], [2, 2, 2, 2]),
         ],
     )
 }
@@ -160,24 +158,10 @@ fn alternates_of_falling_sizes(rt: HostRuntime) -> Result<(), Fail> {
     Ok(())
 }
 
-// Checks what a filter leaves of lower edges, and that each is below both its ends.
-fn stays_below(
-    rt: &impl Abort,
-    filter: Filter,
-    vertices: [u16; 5],
-    edges: [u16; 4],
-) -> Result<(), Fail> {
-    let sheet = path_levels([5, 2, 7, 7, 1], [1, 0, 6, 1]);
-    let left = filtered(&[filter], &path(), sheet)?;
-    assert_eq!(rt; left, path_levels(vertices, edges));
-    let ([first, second, third, fourth, fifth], edges) = left;
-    assert!(rt; all_below(&edges, &[first, second, third, fourth]));
-    assert!(rt; all_below(&edges, &[second, third, fourth, fifth]));
-    Ok(())
-}
-
+// What filters leave of lower edges, each below both its ends.
 #[test]
 fn edges_stay_below_ends(rt: HostRuntime) -> Result<(), Fail> {
+    let sheet = path_levels([5, 2, 7, 7, 1], [1, 0, 6, 1]);
     let examples = [
         (d(1), [5, 7, 7, 7, 7], [1, 6, 6, 6]),
         (e(1), [2, 2, 2, 1, 1], [0, 0, 0, 1]),
@@ -186,7 +170,11 @@ fn edges_stay_below_ends(rt: HostRuntime) -> Result<(), Fail> {
         (a(1), [5, 5, 7, 7, 7], [1, 1, 1, 1]),
     ];
     for (filter, vertices, edges) in examples {
-        stays_below(&rt, filter, vertices, edges)?;
+        let left = filtered(&[filter], &path(), sheet)?;
+        assert_eq!(rt; left, path_levels(vertices, edges));
+        let ([first, second, third, fourth, fifth], edges) = left;
+        assert!(rt; all_below(&edges, &[first, second, third, fourth]));
+        assert!(rt; all_below(&edges, &[second, third, fourth, fifth]));
     }
     Ok(())
 }
@@ -217,32 +205,19 @@ fn neighbourhoods(rt: HostRuntime) -> Result<(), Fail> {
 }
 
 // The weights that are at least 5 as present.
-fn cut_path(weights: ([Level; 5], [Level; 4])) -> Result<([Presence; 5], [Presence; 4]), Refusal> {
+fn cut_path(weights: Sheet<Level, 5, 4>) -> Result<Sheet<Presence, 5, 4>, Refusal> {
     let cut = LevelCut::new(Level::new(5))?;
     let (vertices, edges) = weights;
-    let mut images = path_presences([0; 5], [0; 4]);
-    for i in 0..5 {
-        images.0[i] = cut.read(vertices[i]);
-    }
-    for i in 0..4 {
-        images.1[i] = cut.read(edges[i]);
-    }
-    Ok(images)
+    Ok((
+        vertices.map(|weight| cut.read(weight)),
+        edges.map(|weight| cut.read(weight)),
+    ))
 }
 
-// Checks the path sheet filtered and then cut, and cut and then filtered.
-fn cuts(rt: &impl Abort, filter: Filter, vertices: [u8; 5], edges: [u8; 4]) -> Result<(), Fail> {
-    let result = path_presences(vertices, edges);
-    assert_eq!(rt; cut_path(on_path(&[filter])?)?, result);
-    assert_eq!(rt;
-        filtered(&[filter], &path(), cut_path(on_path(&[])?)?)?,
-        result
-    );
-    Ok(())
-}
-
+// The path sheet filtered and then cut, and cut and then filtered.
 #[test]
 fn filters_commute_with_cuts(rt: HostRuntime) -> Result<(), Fail> {
+    let sheet = cut_path(on_path(&[])?)?;
     let examples = [
         (d(1), [1, 1, 1, 1, 1], [0, 1, 1, 1]),
         (e(1), [0, 0, 0, 0, 0], [0, 0, 0, 0]),
@@ -254,25 +229,18 @@ fn filters_commute_with_cuts(rt: HostRuntime) -> Result<(), Fail> {
         (a(2), [1, 1, 1, 1, 1], [0, 0, 0, 0]),
     ];
     for (filter, vertices, edges) in examples {
-        cuts(&rt, filter, vertices, edges)?;
+        let result = path_presences(vertices, edges);
+        assert_eq!(rt; cut_path(on_path(&[filter])?)?, result);
+        assert_eq!(rt; filtered(&[filter], &path(), sheet)?, result);
     }
     Ok(())
 }
 
 // Which of these sets have class 2.
-fn pick_second(
-    weights: ([Classes; 2], [Classes; 1]),
-) -> Result<([Presence; 2], [Presence; 1]), Refusal> {
+fn pick_second(weights: Sheet<Classes, 2, 1>) -> Result<Sheet<Presence, 2, 1>, Refusal> {
     let pick = ClassPick::new(2)?;
     let ([first, second], [edge]) = weights;
     Ok(([pick.read(first), pick.read(second)], [pick.read(edge)]))
-}
-
-fn sets(first: u32, second: u32, edge: u32) -> ([Classes; 2], [Classes; 1]) {
-    (
-        [Classes::from_bits(first), Classes::from_bits(second)],
-        [Classes::from_bits(edge)],
-    )
 }
 
 #[test]
@@ -290,13 +258,7 @@ fn filters_commute_with_class_picks(rt: HostRuntime) -> Result<(), Fail> {
 
 // Which of the vertices have exactly 5. This is no reading: it does not keep joins.
 fn exactly_five(weights: [Level; 5]) -> [Presence; 5] {
-    let mut images = [Presence::Absent; 5];
-    for i in 0..5 {
-        if weights[i].value() == 5 {
-            images[i] = Presence::Present;
-        }
-    }
-    images
+    presences(weights.map(|weight| u8::from(weight.value() == 5)))
 }
 
 #[test]
@@ -329,8 +291,8 @@ fn even_openings_and_closings(rt: HostRuntime) -> Result<(), Fail> {
     check_examples(
         &rt,
         &[
-            (&[E1, D1], [2, 2, 2, 2, 1], [2, 2, 2, 1]),
-            (&[D1, E1], [5, 5, 7, 7, 7], [2, 2, 7, 7]),
+            (&[e(1), d(1)], [2, 2, 2, 2, 1], [2, 2, 2, 1]),
+            (&[d(1), e(1)], [5, 5, 7, 7, 7], [2, 2, 7, 7]),
         ],
     )
 }

@@ -4,7 +4,26 @@ use crate::support::*;
 use filters::*;
 use graph::Edge;
 use lattice::*;
-use refusal::Part;
+use refusal::Refusal;
+
+// What two passes answer, and what each leaves of these weights.
+fn both<K: Kind, const N: usize, Join, Meet>(
+    before: [K; N],
+    join: Join,
+    meet: Meet,
+) -> [(Outcome, [K; N]); 2]
+where
+    Join: Fn(&mut [K]) -> Result<(), Refusal>,
+    Meet: Fn(&mut [K]) -> Result<(), Refusal>,
+    requires join { Join.IsAlwaysCallable join }
+    requires meet { Meet.IsAlwaysCallable meet }
+{
+    let mut joins = before;
+    let by_join = outcome(join(&mut joins));
+    let mut meets = before;
+    let by_meet = outcome(meet(&mut meets));
+    [(by_join, joins), (by_meet, meets)]
+}
 
 // What the passes to edges give: by join, then by meet.
 fn to_edges<K: Kind, const M: usize>(
@@ -12,13 +31,13 @@ fn to_edges<K: Kind, const M: usize>(
     rows: &[Edge],
     vertices: &[K],
     before: [K; M],
-) -> [((u8, usize, Option<Part>), [K; M]); 2] {
+) -> [(Outcome, [K; M]); 2] {
     let graph = graph_of(n, rows);
-    let mut joins = before;
-    let by_join = outcome(join_to_edges(&graph, vertices, &mut joins));
-    let mut meets = before;
-    let by_meet = outcome(meet_to_edges(&graph, vertices, &mut meets));
-    [(by_join, joins), (by_meet, meets)]
+    both(
+        before,
+        |edges| join_to_edges(&graph, vertices, edges),
+        |edges| meet_to_edges(&graph, vertices, edges),
+    )
 }
 
 // What the passes to vertices give: by join, then by meet.
@@ -27,13 +46,13 @@ fn to_vertices<K: Kind, const N: usize>(
     rows: &[Edge],
     edges: &[K],
     before: [K; N],
-) -> [((u8, usize, Option<Part>), [K; N]); 2] {
+) -> [(Outcome, [K; N]); 2] {
     let graph = graph_of(n, rows);
-    let mut joins = before;
-    let by_join = outcome(join_to_vertices(&graph, edges, &mut joins));
-    let mut meets = before;
-    let by_meet = outcome(meet_to_vertices(&graph, edges, &mut meets));
-    [(by_join, joins), (by_meet, meets)]
+    both(
+        before,
+        |vertices| join_to_vertices(&graph, edges, vertices),
+        |vertices| meet_to_vertices(&graph, edges, vertices),
+    )
 }
 
 #[test]

@@ -3,37 +3,27 @@
 use crate::support::*;
 use filters::Filter;
 use lattice::*;
-use refusal::Part;
 use std::process::Abort;
 use std::test::Fail;
 
-fn same<const N: usize, const M: usize>(
-    left: ([Level; N], [Level; M]),
-    right: ([Level; N], [Level; M]),
-) -> bool {
-    left == right
+// What a filter of the path answers, and what it leaves of these weights and of this scratch.
+fn on_path_from<K: Kind, const V: usize, const E: usize, const W: usize, const F: usize>(
+    filter: Filter,
+    weights: Sheet<K, V, E>,
+    scratch: Sheet<K, W, F>,
+) -> (Outcome, Sheet<K, V, E>, Sheet<K, W, F>) {
+    let (answer, left, scratch_left) = with_scratch(filter, 5, &path(), weights, scratch);
+    (outcome(answer), left, scratch_left)
 }
 
 // What a filter of the path answers where its buffers hold these levels, and whether they do afterwards.
 fn attempt<const V: usize, const E: usize, const W: usize, const F: usize>(
     filter: Filter,
-    weights: ([Level; V], [Level; E]),
-    scratch: ([Level; W], [Level; F]),
-) -> ((u8, usize, Option<Part>), bool) {
-    let (mut vertices, mut edges) = weights;
-    let (mut vertex_scratch, mut edge_scratch) = scratch;
-    let answer = apply(
-        filter,
-        5,
-        &path(),
-        &mut vertices,
-        &mut edges,
-        &mut vertex_scratch,
-        &mut edge_scratch,
-    );
-    let weights_stay = same((vertices, edges), weights);
-    let scratch_stays = same((vertex_scratch, edge_scratch), scratch);
-    (outcome(answer), weights_stay && scratch_stays)
+    weights: Sheet<Level, V, E>,
+    scratch: Sheet<Level, W, F>,
+) -> (Outcome, bool) {
+    let (answer, left, scratch_left) = on_path_from(filter, weights, scratch);
+    (answer, left == weights && scratch_left == scratch)
 }
 
 // Checks that a filter refuses buffers of these lengths by 7 and changes nothing.
@@ -95,35 +85,15 @@ fn lengths_before_sizes(rt: HostRuntime) {
     refuses(&rt, a(201), ([3; 5], [2; 4]), ([8; 5], [9; 3]));
 }
 
-// What the filter leaves of the path sheet with this scratch, and of the scratch.
-fn with_scratch<K: Kind>(
-    filter: Filter,
-    weights: ([K; 5], [K; 4]),
-    scratch: ([K; 5], [K; 4]),
-) -> (([K; 5], [K; 4]), ([K; 5], [K; 4])) {
-    let (mut vertices, mut edges) = weights;
-    let (mut vertex_scratch, mut edge_scratch) = scratch;
-    let _ = apply(
-        filter,
-        5,
-        &path(),
-        &mut vertices,
-        &mut edges,
-        &mut vertex_scratch,
-        &mut edge_scratch,
-    );
-    ((vertices, edges), (vertex_scratch, edge_scratch))
-}
-
 #[test]
 fn scratch_ends_lowest(rt: HostRuntime) -> Result<(), Fail> {
     let weights = path_levels([5, 2, 7, 7, 1], [2, 2, 7, 1]);
     let zeros = path_levels([0; 5], [0; 4]);
     for filter in [d(3), e(3), o(3), o(4), c(3), c(4), a(3)] {
-        let left = (on_path(&[filter])?, zeros);
-        assert_eq!(rt; with_scratch(filter, weights, zeros), left);
+        let left = (ACCEPTED, on_path(&[filter])?, zeros);
+        assert_eq!(rt; on_path_from(filter, weights, zeros), left);
         assert_eq!(rt;
-            with_scratch(filter, weights, path_levels([65535; 5], [1, 2, 3, 4])),
+            on_path_from(filter, weights, path_levels([65535; 5], [1, 2, 3, 4])),
             left
         );
     }
@@ -133,13 +103,13 @@ fn scratch_ends_lowest(rt: HostRuntime) -> Result<(), Fail> {
 #[test]
 fn scratch_of_other_kinds(rt: HostRuntime) {
     let turned = (reversed([5, 2, 7, 7, 1]), reversed([2, 2, 7, 1]));
-    let (_, scratch) = with_scratch(d(1), turned, turned);
+    let (_, _, scratch) = on_path_from(d(1), turned, turned);
     assert_eq!(rt; scratch, (reversed([65535; 5]), reversed([65535; 4])));
     let all = path_presences([1; 5], [1; 4]);
-    let (_, scratch) = with_scratch(e(1), all, all);
+    let (_, _, scratch) = on_path_from(e(1), all, all);
     assert_eq!(rt; scratch, path_presences([0; 5], [0; 4]));
     let sets = ([Classes::from_bits(3); 5], [Classes::from_bits(2); 4]);
-    let (_, scratch) = with_scratch(o(1), sets, sets);
+    let (_, _, scratch) = on_path_from(o(1), sets, sets);
     assert_eq!(rt;
         scratch,
         ([Classes::from_bits(0); 5], [Classes::from_bits(0); 4])

@@ -1,11 +1,9 @@
 // Filters on small graphs of each kind.
 
 use crate::support::*;
-use filters::Filter;
 use graph::Edge;
 use lattice::*;
 use std::alloc::{AllocError, Global};
-use std::process::Abort;
 use std::test::Fail;
 
 #[test]
@@ -13,8 +11,8 @@ fn path_rounds(rt: HostRuntime) -> Result<(), Fail> {
     check_examples(
         &rt,
         &[
-            (&[D1], [5, 7, 7, 7, 7], [2, 7, 7, 7]),
-            (&[E1], [2, 2, 2, 1, 1], [2, 2, 1, 1]),
+            (&[d(1)], [5, 7, 7, 7, 7], [2, 7, 7, 7]),
+            (&[e(1)], [2, 2, 2, 1, 1], [2, 2, 1, 1]),
             (&[], [5, 2, 7, 7, 1], [2, 2, 7, 1]),
         ],
     )
@@ -26,8 +24,8 @@ fn path_openings(rt: HostRuntime) -> Result<(), Fail> {
     check_examples(
         &rt,
         &[
-            (&[O1], [2, 2, 7, 7, 1], [2, 2, 2, 1]),
-            (&[O2], [2, 2, 2, 2, 1], [2, 2, 2, 1]),
+            (&[o(1)], [2, 2, 7, 7, 1], [2, 2, 2, 1]),
+            (&[o(2)], [2, 2, 2, 2, 1], [2, 2, 2, 1]),
         ],
     )
 }
@@ -37,8 +35,8 @@ fn path_closings(rt: HostRuntime) -> Result<(), Fail> {
     check_examples(
         &rt,
         &[
-            (&[C1], [5, 5, 7, 7, 7], [2, 2, 7, 1]),
-            (&[C2], [5, 5, 7, 7, 7], [2, 2, 7, 7]),
+            (&[c(1)], [5, 5, 7, 7, 7], [2, 2, 7, 1]),
+            (&[c(2)], [5, 5, 7, 7, 7], [2, 2, 7, 7]),
         ],
     )
 }
@@ -49,10 +47,10 @@ fn path_alternates(rt: HostRuntime) -> Result<(), Fail> {
     check_examples(
         &rt,
         &[
-            (&[A1], [5, 5, 7, 7, 7], [2, 2, 2, 1]),
-            (&[O1, C1], [2, 2, 7, 7, 7], [2, 2, 2, 1]),
-            (&[A2], [5, 5, 7, 7, 7], [2, 2, 2, 2]),
-            (&[A1, A2], [5, 5, 7, 7, 7], [2, 2, 2, 2]),
+            (&[a(1)], [5, 5, 7, 7, 7], [2, 2, 2, 1]),
+            (&[o(1), c(1)], [2, 2, 7, 7, 7], [2, 2, 2, 1]),
+            (&[a(2)], [5, 5, 7, 7, 7], [2, 2, 2, 2]),
+            (&[a(1), a(2)], [5, 5, 7, 7, 7], [2, 2, 2, 2]),
         ],
     )
 }
@@ -96,48 +94,24 @@ fn old_weights_are_read(rt: HostRuntime) -> Result<(), Fail> {
     Ok(())
 }
 
-fn classes(first: u32, second: u32, edge: u32) -> ([Classes; 2], [Classes; 1]) {
-    (
-        [Classes::from_bits(first), Classes::from_bits(second)],
-        [Classes::from_bits(edge)],
-    )
-}
-
 #[test]
 fn classes_unite_and_intersect(rt: HostRuntime) -> Result<(), Fail> {
     let rows = [edge(0, 1)];
-    let sheet = classes(3, 6, 2);
-    assert_eq!(rt; filtered(&[d(1)], &rows, sheet)?, classes(7, 7, 2));
-    assert_eq!(rt; filtered(&[e(1)], &rows, sheet)?, classes(2, 2, 2));
-    assert_eq!(rt; filtered(&[c(1)], &rows, sheet)?, classes(7, 7, 2));
+    let sheet = sets(3, 6, 2);
+    assert_eq!(rt; filtered(&[d(1)], &rows, sheet)?, sets(7, 7, 2));
+    assert_eq!(rt; filtered(&[e(1)], &rows, sheet)?, sets(2, 2, 2));
+    assert_eq!(rt; filtered(&[c(1)], &rows, sheet)?, sets(7, 7, 2));
     Ok(())
 }
 
-fn path_reversed(
-    vertices: [u16; 5],
-    edges: [u16; 4],
-) -> ([Reversed<Level>; 5], [Reversed<Level>; 4]) {
+fn path_reversed(vertices: [u16; 5], edges: [u16; 4]) -> Sheet<Reversed<Level>, 5, 4> {
     (reversed(vertices), reversed(edges))
-}
-
-// Checks what a filter leaves of the path sheet with its order turned.
-fn turned(
-    rt: &impl Abort,
-    filter: Filter,
-    vertices: [u16; 5],
-    edges: [u16; 4],
-) -> Result<(), Fail> {
-    let sheet = path_reversed([5, 2, 7, 7, 1], [2, 2, 7, 1]);
-    assert_eq!(rt;
-        filtered(&[filter], &path(), sheet)?,
-        path_reversed(vertices, edges)
-    );
-    Ok(())
 }
 
 // In the turned order a dilation is an erosion, and an opening a closing.
 #[test]
 fn reversed_levels(rt: HostRuntime) -> Result<(), Fail> {
+    let sheet = path_reversed([5, 2, 7, 7, 1], [2, 2, 7, 1]);
     let examples = [
         (d(1), [2, 2, 2, 1, 1], [2, 2, 1, 1]),
         (e(1), [5, 7, 7, 7, 7], [2, 7, 7, 7]),
@@ -145,23 +119,18 @@ fn reversed_levels(rt: HostRuntime) -> Result<(), Fail> {
         (c(1), [2, 2, 7, 7, 1], [2, 2, 2, 1]),
     ];
     for (filter, vertices, edges) in examples {
-        turned(&rt, filter, vertices, edges)?;
+        assert_eq!(rt;
+            filtered(&[filter], &path(), sheet)?,
+            path_reversed(vertices, edges)
+        );
     }
     Ok(())
 }
 
-// Checks what a filter leaves of the path with vertices 0, 2 and 3 and edge 2-3 present.
-fn present(rt: &impl Abort, filter: Filter, vertices: [u8; 5], edges: [u8; 4]) -> Result<(), Fail> {
-    let sheet = path_presences([1, 0, 1, 1, 0], [0, 0, 1, 0]);
-    assert_eq!(rt;
-        filtered(&[filter], &path(), sheet)?,
-        path_presences(vertices, edges)
-    );
-    Ok(())
-}
-
+// The path with vertices 0, 2 and 3 and edge 2-3 present.
 #[test]
 fn presence(rt: HostRuntime) -> Result<(), Fail> {
+    let sheet = path_presences([1, 0, 1, 1, 0], [0, 0, 1, 0]);
     let examples = [
         (d(1), [1, 1, 1, 1, 1], [0, 1, 1, 1]),
         (e(1), [0, 0, 0, 0, 0], [0, 0, 0, 0]),
@@ -170,14 +139,17 @@ fn presence(rt: HostRuntime) -> Result<(), Fail> {
         (a(1), [1, 1, 1, 1, 1], [0, 0, 0, 0]),
     ];
     for (filter, vertices, edges) in examples {
-        present(&rt, filter, vertices, edges)?;
+        assert_eq!(rt;
+            filtered(&[filter], &path(), sheet)?,
+            path_presences(vertices, edges)
+        );
     }
     Ok(())
 }
 
 #[test]
 fn no_vertices(rt: HostRuntime) -> Result<(), Fail> {
-    let nothing: ([Level; 0], [Level; 0]) = ([], []);
+    let nothing: Sheet<Level, 0, 0> = ([], []);
     for filter in [d(1), e(200), o(3), c(4), a(200)] {
         assert_eq!(rt; filtered(&[filter], &[], nothing)?, nothing);
     }
@@ -186,7 +158,7 @@ fn no_vertices(rt: HostRuntime) -> Result<(), Fail> {
 
 #[test]
 fn no_edges(rt: HostRuntime) -> Result<(), Fail> {
-    let sheet: ([Level; 3], [Level; 0]) = (levels([4, 0, 65535]), []);
+    let sheet: Sheet<Level, 3, 0> = (levels([4, 0, 65535]), []);
     for filter in [d(1), o(1), o(2), a(1)] {
         assert_eq!(rt; filtered(&[filter], &[], sheet)?, (levels([0; 3]), []));
     }
@@ -198,18 +170,14 @@ fn no_edges(rt: HostRuntime) -> Result<(), Fail> {
 
 // A path of so many vertices.
 fn long_path(heap: Global, n: u32) -> Result<Vec<Edge>, AllocError> {
-    let mut rows = Vec::new(heap);
-    for second in 1..n {
-        rows.push(edge(second - 1, second))?;
-    }
-    Ok(rows)
+    (0..n)
+        .zip(1..n)
+        .map(|(first, second)| edge(first, second))
+        .collect(heap)
 }
 
 fn at(weights: &[Level], place: usize) -> Option<u16> {
-    match weights.get(place) {
-        Some(weight) => Some(weight.value()),
-        None => None,
-    }
+    weights.get(place).map(|weight| weight.value())
 }
 
 #[test]

@@ -2,7 +2,7 @@
 
 use filters::{Family, Filter, WeightsMut};
 use graph::{Edge, Graph, judge};
-use lattice::{Kind, Level, Presence, Reversed};
+use lattice::{Classes, Kind, Level, Presence, Reversed};
 use refusal::{Part, Refusal};
 use std::process::Abort;
 use std::test::Fail;
@@ -42,76 +42,6 @@ pub(crate) fn a(size: u32) -> Filter {
     }
 }
 
-pub const D1: Filter = Filter {
-    family: Family::Dilation,
-    size: 1,
-};
-
-pub const D2: Filter = Filter {
-    family: Family::Dilation,
-    size: 2,
-};
-
-pub const D3: Filter = Filter {
-    family: Family::Dilation,
-    size: 3,
-};
-
-pub const E1: Filter = Filter {
-    family: Family::Erosion,
-    size: 1,
-};
-
-pub const E2: Filter = Filter {
-    family: Family::Erosion,
-    size: 2,
-};
-
-pub const E3: Filter = Filter {
-    family: Family::Erosion,
-    size: 3,
-};
-
-pub const O1: Filter = Filter {
-    family: Family::Opening,
-    size: 1,
-};
-
-pub const O2: Filter = Filter {
-    family: Family::Opening,
-    size: 2,
-};
-
-pub const C1: Filter = Filter {
-    family: Family::Closing,
-    size: 1,
-};
-
-pub const C2: Filter = Filter {
-    family: Family::Closing,
-    size: 2,
-};
-
-pub const C3: Filter = Filter {
-    family: Family::Closing,
-    size: 3,
-};
-
-pub const A1: Filter = Filter {
-    family: Family::Alternate,
-    size: 1,
-};
-
-pub const A2: Filter = Filter {
-    family: Family::Alternate,
-    size: 2,
-};
-
-pub const A3: Filter = Filter {
-    family: Family::Alternate,
-    size: 3,
-};
-
 pub(crate) fn edge(first: u32, second: u32) -> Edge {
     Edge { first, second }
 }
@@ -121,49 +51,60 @@ pub(crate) fn path() -> [Edge; 4] {
     [edge(0, 1), edge(1, 2), edge(2, 3), edge(3, 4)]
 }
 
-pub(crate) fn levels<const N: usize>(values: [u16; N]) -> [Level; N] {
-    let mut weights = [Level::new(0); N];
-    for (i, value) in values.iter().enumerate() {
-        weights[i] = Level::new(*value);
+// Weights of these values, each made in the same way.
+fn weights<V: Copy, K: Kind, Make: Fn(V) -> K, const N: usize>(values: [V; N], make: Make) -> [K; N]
+    requires { Make.IsAlwaysCallable make }
+{
+    let mut weights = [K::lowest(); N];
+    for (weight, value) in weights.iter_mut().zip(values.iter()) {
+        *weight = make(*value);
     }
     weights
+}
+
+pub(crate) fn levels<const N: usize>(values: [u16; N]) -> [Level; N] {
+    weights(values, Level::new)
 }
 
 pub(crate) fn reversed<const N: usize>(values: [u16; N]) -> [Reversed<Level>; N] {
-    let mut weights = [Reversed {
-        inner: Level::new(0),
-    }; N];
-    for (i, value) in values.iter().enumerate() {
-        weights[i] = Reversed {
-            inner: Level::new(*value),
-        };
-    }
-    weights
+    weights(
+        values,
+        |value| Reversed {
+            inner: Level::new(value),
+        },
+    )
 }
 
 pub(crate) fn presences<const N: usize>(values: [u8; N]) -> [Presence; N] {
-    let mut weights = [Presence::Absent; N];
-    for (i, value) in values.iter().enumerate() {
-        if *value == 1 {
-            weights[i] = Presence::Present;
+    weights(values, |value| {
+        if value == 1 {
+            Presence::Present
+        } else {
+            Presence::Absent
         }
-    }
-    weights
+    })
 }
 
-// The number, the place and the part of a refusal; a 0 and no part where the call is accepted.
-pub(crate) fn outcome(answer: Result<(), Refusal>) -> (u8, usize, Option<Part>) {
-    match answer {
-        Ok(()) => (0, 0, None),
-        Err(refusal) => (refusal.number(), refusal.place(), Some(refusal.part())),
-    }
+// Two vertices and their edge as sets of classes, by their bits.
+pub(crate) fn sets(first: u32, second: u32, edge: u32) -> Sheet<Classes, 2, 1> {
+    (
+        [Classes::from_bits(first), Classes::from_bits(second)],
+        [Classes::from_bits(edge)],
+    )
 }
 
-pub const ACCEPTED: (u8, usize, Option<Part>) = (0, 0, None);
+// What a call answers: nothing, or the number, the place and the part of its refusal.
+pub type Outcome = Result<(), (u8, usize, Part)>;
+
+pub(crate) fn outcome(answer: Result<(), Refusal>) -> Outcome {
+    answer.map_err(|refusal| (refusal.number(), refusal.place(), refusal.part()))
+}
+
+pub const ACCEPTED: Outcome = Ok(());
 
 // A refusal of the weights or the size of a filter: it names no place.
-pub(crate) fn refused(number: u8) -> (u8, usize, Option<Part>) {
-    (number, 0, Some(Part::Sheet))
+pub(crate) fn refused(number: u8) -> Outcome {
+    Err((number, 0, Part::Sheet))
 }
 
 // The graph of these rows, or the empty one where they are refused.
@@ -173,11 +114,11 @@ pub(crate) fn graph_of<'a>(n: usize, rows: &'a [Edge]) -> Graph<'a> {
     graph
 }
 
-// Applies a filter on the graph of these rows.
-pub(crate) fn apply<'a, K: Kind>(
+// Applies a filter on the graph of these rows. Kept with single slices, since a `WeightsMut` cannot be passed on to the next call.
+pub(crate) fn apply<K: Kind>(
     filter: Filter,
     n: usize,
-    rows: &'a [Edge],
+    rows: &[Edge],
     vertices: &mut [K],
     edges: &mut [K],
     vertex_scratch: &mut [K],
@@ -192,47 +133,65 @@ pub(crate) fn apply<'a, K: Kind>(
     filter.apply(&graph, WeightsMut { vertices, edges }, scratch)
 }
 
+// The weights of vertices and of edges, or scratch for them.
+pub type Sheet<K, const N: usize, const M: usize> = ([K; N], [K; M]);
+
+// What a filter on the graph of these rows answers, and what it leaves of these weights and of this scratch.
+pub(crate) fn with_scratch<K: Kind, const V: usize, const E: usize, const W: usize, const F: usize>(
+    filter: Filter,
+    n: usize,
+    rows: &[Edge],
+    weights: Sheet<K, V, E>,
+    scratch: Sheet<K, W, F>,
+) -> (Result<(), Refusal>, Sheet<K, V, E>, Sheet<K, W, F>) {
+    let (mut vertices, mut edges) = weights;
+    let (mut vertex_scratch, mut edge_scratch) = scratch;
+    let answer = apply(
+        filter,
+        n,
+        rows,
+        &mut vertices,
+        &mut edges,
+        &mut vertex_scratch,
+        &mut edge_scratch,
+    );
+    (answer, (vertices, edges), (vertex_scratch, edge_scratch))
+}
+
 // What the filters, first to last, leave of these weights.
 pub(crate) fn filtered<K: Kind, const N: usize, const M: usize>(
     filters: &[Filter],
     rows: &[Edge],
-    weights: ([K; N], [K; M]),
-) -> Result<([K; N], [K; M]), Refusal> {
-    let (mut vertices, mut edges) = weights;
-    let mut vertex_scratch = [K::highest(); N];
-    let mut edge_scratch = [K::highest(); M];
+    weights: Sheet<K, N, M>,
+) -> Result<Sheet<K, N, M>, Refusal> {
+    let mut weights = weights;
+    let mut scratch = ([K::highest(); N], [K::highest(); M]);
     for filter in filters {
-        apply(
-            *filter,
-            N,
-            rows,
-            &mut vertices,
-            &mut edges,
-            &mut vertex_scratch,
-            &mut edge_scratch,
-        )?;
+        let (answer, left, scratch_left) = with_scratch(*filter, N, rows, weights, scratch);
+        answer?;
+        weights = left;
+        scratch = scratch_left;
     }
-    Ok((vertices, edges))
+    Ok(weights)
 }
 
 // Levels on the path.
-pub(crate) fn path_levels(vertices: [u16; 5], edges: [u16; 4]) -> ([Level; 5], [Level; 4]) {
+pub(crate) fn path_levels(vertices: [u16; 5], edges: [u16; 4]) -> Sheet<Level, 5, 4> {
     (levels(vertices), levels(edges))
 }
 
 // Presences on the path.
-pub(crate) fn path_presences(vertices: [u8; 5], edges: [u8; 4]) -> ([Presence; 5], [Presence; 4]) {
+pub(crate) fn path_presences(vertices: [u8; 5], edges: [u8; 4]) -> Sheet<Presence, 5, 4> {
     (presences(vertices), presences(edges))
 }
 
 // Whether each weight is below the other one at its place.
 pub(crate) fn all_below<K: Kind>(lower: &[K], upper: &[K]) -> bool {
-    for (weight, bound) in lower.iter().zip(upper.iter()) {
-        if !weight.is_below(*bound) {
-            return false;
-        }
-    }
     lower.len() == upper.len()
+        && lower
+            .iter()
+            .zip(upper)
+            .all(|(weight, bound)| weight.is_below(*bound))
 }
 
 // Filters, and what they leave at the vertices and the edges of the path sheet.
@@ -247,7 +206,7 @@ pub(crate) fn check_examples(rt: &impl Abort, examples: &[Example]) -> Result<()
 }
 
 // What the filters leave of the path sheet.
-pub(crate) fn on_path(filters: &[Filter]) -> Result<([Level; 5], [Level; 4]), Refusal> {
+pub(crate) fn on_path(filters: &[Filter]) -> Result<Sheet<Level, 5, 4>, Refusal> {
     let sheet = path_levels([5, 2, 7, 7, 1], [2, 2, 7, 1]);
     filtered(filters, &path(), sheet)
 }

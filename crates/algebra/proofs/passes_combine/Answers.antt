@@ -2,4 +2,4 @@ use Rattle.algebra.proofs.Suprema.{all_passes_combine}
 use Rattle.algebra.proofs.passes_combine.Goals as goal
 
 pub returns : goal.returns
-returns g c = all_passes_combine g.K.Kind.below g.K.Kind.operations g.met.K.Kind.lattice
+returns g c = all_passes_combine _ _ g.met.K.Kind.lattice
