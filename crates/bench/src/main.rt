@@ -6,12 +6,8 @@
 
 #![tactic(auto)]
 
-// `generator`, `levels`, `meshes` and the readers in `jobs` stand in both benchmark programs. They are kept twice, since functions of
-// a library would owe a contract for each draw and each table, which is longer than what it saves.
-mod generator;
+mod checksums;
 mod jobs;
-mod levels;
-mod meshes;
 mod runs;
 
 use jobs::Job;

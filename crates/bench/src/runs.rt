@@ -1,11 +1,11 @@
 //! Runs of a filter, and their times.
 
+use crate::checksums::checksum;
 use crate::jobs::Job;
-use crate::levels::Buffers;
 use anyhow::anyhow;
 use filters::Filter;
 use graph::{Graph, judge};
-use lattice::Kind;
+use measuring::Buffers;
 use std::time::{Duration, Instant};
 
 /// The time of one application of a filter.
@@ -41,7 +41,7 @@ fn repeat_on(rt: &HostRuntime, job: Job, graph: &Graph) -> anyhow::Result<()> {
     let heap = rt.alloc();
     let n = graph.order();
     let m = graph.edges().len();
-    let start = Buffers::starting(heap, n, graph.edges())?;
+    let start = Buffers::starting(heap, graph)?;
     let mut weights = Buffers::lowest(heap, n, m)?;
     let mut scratch = Buffers::lowest(heap, n, m)?;
     let mut times = Vec::new(heap);
@@ -49,7 +49,7 @@ fn repeat_on(rt: &HostRuntime, job: Job, graph: &Graph) -> anyhow::Result<()> {
         weights.copy_from(&start)?;
         times.push(time_apply(rt, job.filter, graph, &mut weights, &mut scratch)?)?;
     }
-    print_result(rt, &mut times, weights.checksum())
+    print_result(rt, &mut times, checksum(&weights))
 }
 
 /// Does a job: makes its graph, runs its filter, and prints the result.

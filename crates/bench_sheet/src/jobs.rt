@@ -1,8 +1,8 @@
 //! What to measure, as the arguments say it.
 
-use crate::meshes::{Grid, Mesh};
 use anyhow::anyhow;
-use filters::{Family, Filter};
+use filters::Filter;
+use measuring::{Mesh, parse_filter, parse_grid, parse_random, parse_repeat};
 
 /// The call of a sheet that is measured.
 #[derive(Clone, Copy)]
@@ -41,7 +41,10 @@ impl Job {
     fn on(mesh: Mesh, words: &[String]) -> anyhow::Result<Job> {
         let (task, repeat) = match words {
             [task, repeat] => (parse_end(task.as_str())?, repeat),
-            [letter, size, repeat] => (parse_step(letter.as_str(), size.as_str())?, repeat),
+            [letter, size, repeat] => {
+                let filter = parse_filter(letter.as_str(), size.as_str())?;
+                (Task::Step(filter), repeat)
+            }
             _ => return Err(anyhow!(
                 "the arguments end with: open, close or LETTER SIZE, and REPEAT"
             )),
@@ -51,63 +54,11 @@ impl Job {
     }
 }
 
-fn parse_grid(width: &str, height: &str) -> anyhow::Result<Mesh> {
-    if let (Ok(width), Ok(height)) = (width.parse::<u32>(), height.parse::<u32>())
-        && let Some(grid) = Grid::new(width, height)
-    {
-        return Ok(Mesh::Grid(grid));
-    }
-    Err(anyhow!("W and H are at least 1, and W * H at most 1000000"))
-}
-
-fn parse_random(n: &str, m: &str, seed: &str) -> anyhow::Result<Mesh> {
-    let Ok(seed) = seed.parse::<u64>() else {
-        return Err(anyhow!("SEED is a number of 64 bits"));
-    };
-    match (n.parse::<u32>(), m.parse::<u32>()) {
-        (Ok(n), Ok(m)) if Mesh::random_is_sparse(n, m) => Ok(Mesh::Random { n, m, seed }),
-        _ => Err(anyhow!(
-            "N is 2 to 1000000, and M at most 4000000 and at most a quarter of N * (N - 1)"
-        )),
-    }
-}
-
 /// The task at one of the ends of a sheet's life.
 fn parse_end(word: &str) -> anyhow::Result<Task> {
     match word {
         "open" => Ok(Task::Open),
         "close" => Ok(Task::Close),
         _ => Err(anyhow!("a task of one word is open or close")),
-    }
-}
-
-fn parse_step(letter: &str, size: &str) -> anyhow::Result<Task> {
-    let family = parse_family(letter)?;
-    let size = parse_size(size)?;
-    Ok(Task::Step(Filter { family, size }))
-}
-
-fn parse_family(letter: &str) -> anyhow::Result<Family> {
-    match letter {
-        "D" => Ok(Family::Dilation),
-        "E" => Ok(Family::Erosion),
-        "O" => Ok(Family::Opening),
-        "C" => Ok(Family::Closing),
-        "A" => Ok(Family::Alternate),
-        _ => Err(anyhow!("LETTER is D, E, O, C or A")),
-    }
-}
-
-fn parse_size(text: &str) -> anyhow::Result<u32> {
-    match text.parse::<u32>() {
-        Ok(size) if 1 <= size && size <= 200 => Ok(size),
-        _ => Err(anyhow!("SIZE is 1 to 200")),
-    }
-}
-
-fn parse_repeat(text: &str) -> anyhow::Result<u64> {
-    match text.parse::<u64>() {
-        Ok(repeat) if repeat >= 1 => Ok(repeat),
-        _ => Err(anyhow!("REPEAT is at least 1")),
     }
 }

@@ -1,11 +1,12 @@
 //! Runs of a task, and their times.
 
 use crate::jobs::{Job, Task};
-use crate::levels::{Buffers, Records};
+use crate::records::{Records, clear};
 use anyhow::anyhow;
 use filters::{Filter, Weights};
 use graph::{Graph, judge};
-use lattice::{Kind, Level};
+use lattice::Level;
+use measuring::Buffers;
 use refusal::Refusal;
 use sheet::{Clear, Sheet};
 use std::alloc::Global;
@@ -25,7 +26,7 @@ impl Bench {
     fn new(heap: Global, graph: &Graph) -> anyhow::Result<Bench> {
         let n = graph.order();
         let m = graph.edges().len();
-        let start = Buffers::starting(heap, n, graph.edges())?;
+        let start = Buffers::starting(heap, graph)?;
         let start_records = Records::of(heap, &start)?;
         let records = Records::of(heap, &start)?;
         Ok(Bench {
@@ -41,7 +42,7 @@ impl Bench {
     fn time(&mut self, rt: &HostRuntime, task: Task, graph: &Graph) -> anyhow::Result<Duration> {
         match task {
             Task::Open => {
-                self.weights.clear();
+                clear(&mut self.weights);
                 time_open(
                     rt,
                     graph,
@@ -69,7 +70,7 @@ impl Bench {
     /// The checksum of what the task wrote.
     fn checksum(&self, heap: Global, task: Task) -> anyhow::Result<u64> {
         match task {
-            Task::Open | Task::Step(_) => self.weights.checksum(heap),
+            Task::Open | Task::Step(_) => Ok(Records::of(heap, &self.weights)?.checksum()),
             Task::Close => Ok(self.records.checksum()),
         }
     }

@@ -1,0 +1,57 @@
+//! The records of weights, and their checksum.
+
+use filters::fill;
+use lattice::{Kind, Level};
+use measuring::Buffers;
+use std::alloc::Global;
+
+/// Makes all weights lowest.
+pub(crate) fn clear(weights: &mut Buffers) {
+    fill(weights.vertices.as_mut_slice(), Level::lowest());
+    fill(weights.edges.as_mut_slice(), Level::lowest());
+}
+
+/// The records of the weights of a graph.
+#[derive(Drop)]
+pub struct Records {
+    pub vertices: Vec<u8>,
+    pub edges: Vec<u8>,
+}
+
+impl Records {
+    /// The records of weights, written byte by byte.
+    pub(crate) fn of(heap: Global, weights: &Buffers) -> anyhow::Result<Records> {
+        Ok(Records {
+            vertices: bytes_of(heap, weights.vertices.as_slice())?,
+            edges: bytes_of(heap, weights.edges.as_slice())?,
+        })
+    }
+
+    /// Makes all bytes 0.
+    pub(crate) fn clear(&mut self) {
+        fill(self.vertices.as_mut_slice(), 0);
+        fill(self.edges.as_mut_slice(), 0);
+    }
+
+    /// The 64-bit FNV-1a hash of the records of the vertices and then of the edges.
+    pub(crate) fn checksum(&self) -> u64 {
+        let hash = hash_on(14695981039346656037, self.vertices.as_slice());
+        hash_on(hash, self.edges.as_slice())
+    }
+}
+
+/// Two bytes for each weight, the low one first.
+fn bytes_of(heap: Global, weights: &[Level]) -> anyhow::Result<Vec<u8>> {
+    let mut bytes = Vec::new(heap);
+    for weight in weights {
+        bytes.extend_from_slice(&weight.value().to_le_bytes())?;
+    }
+    Ok(bytes)
+}
+
+/// The hash after these bytes, from the hash before them.
+fn hash_on(hash: u64, bytes: &[u8]) -> u64 {
+    bytes.iter().fold(hash, |hash, byte| {
+        (hash ^ u64::from(*byte)).wrapping_mul(1099511628211)
+    })
+}

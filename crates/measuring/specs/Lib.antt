@@ -1,0 +1,4 @@
+pub mod Draws
+pub mod Meshes
+pub mod Starts
+pub mod Words
