@@ -7,6 +7,8 @@ use refusal::{Part, Refusal};
 use std::process::Abort;
 use std::test::Fail;
 
+// A function for each letter, as a recipe names the filters: `d(1)` for `D1`.
+
 pub(crate) fn d(size: u32) -> Filter {
     Filter {
         family: Family::Dilation,
