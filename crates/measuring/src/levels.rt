@@ -73,6 +73,7 @@ fn starting_vertices(heap: Global, n: usize) -> anyhow::Result<Vec<Level>>
 {
     let mut generator = Generator::new(1);
     let mut vertices = Vec::new(heap);
+    // Kept as a `for`, since no proof is found of what a chain collects whose closure changes the generator.
     for _ in 0..n {
         vertices.push(Level::new(generator.upper_bits()))?;
     }
