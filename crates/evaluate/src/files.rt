@@ -39,19 +39,18 @@ pub(crate) fn write_both<'a>(
     edges: &'a str,
     evaluated: &Evaluated,
 ) -> Result<(), Trouble<'a>> {
-    if let Err(error) = fs::write(rt, vertices, evaluated.vertex_records.as_slice()) {
-        return Err(Trouble::NoneWritten {
+    fs::write(rt, vertices, evaluated.vertex_records.as_slice()).map_err(
+        |error| Trouble::NoneWritten {
             vertices,
             edges,
             error,
-        });
-    }
-    if let Err(error) = fs::write(rt, edges, evaluated.edge_records.as_slice()) {
-        return Err(Trouble::VerticesWritten {
+        },
+    )?;
+    fs::write(rt, edges, evaluated.edge_records.as_slice()).map_err(
+        |error| Trouble::VerticesWritten {
             vertices,
             edges,
             error,
-        });
-    }
-    Ok(())
+        },
+    )
 }

@@ -16,10 +16,8 @@ use refusal::Refusal;
 fn judge_vertex<K: Stored>(bytes: &[u8], i: usize) -> Result<(), Refusal>
     ensures { answer result ≡ value_verdict i (K.Stored.parsed bytes.now) }
 {
-    match K::decode(bytes) {
-        Some(_) => Ok(()),
-        None => Err(Refusal::NotAValue(i)),
-    }
+    K::decode(bytes).ok_or(Refusal::NotAValue(i))?;
+    Ok(())
 }
 
 /// Judges each vertex record, first to last.
@@ -55,9 +53,7 @@ fn judge_edge<K: Stored>(
     requires vertices { length vertex_records.now ≡ n * K.Stored.WIDTH }
     ensures { answer result ≡ ends_verdict K.Kind.leq n j (value_at (format K.Stored.WIDTH K.Stored.parsed) vertex_records.now edge.first) (value_at (format K.Stored.WIDTH K.Stored.parsed) vertex_records.now edge.second) (K.Stored.parsed bytes.now) }
 {
-    let Some(weight) = K::decode(bytes) else {
-        return Err(Refusal::NotAValue(n + j));
-    };
+    let weight = K::decode(bytes).ok_or(Refusal::NotAValue(n + j))?;
     let first = decode_at(vertex_records, edge.first as usize);
     let second = decode_at(vertex_records, edge.second as usize);
     if is_bounded(weight, first) && is_bounded(weight, second) {

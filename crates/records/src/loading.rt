@@ -64,7 +64,7 @@ pub fn load<K: Stored>(
     ensures judged { (a : Verdict) → (answer result ≡ a) ↔ (Judged K.Kind.below (format K.Stored.WIDTH K.Stored.parsed) (shape_of graph.now) vertex_records.now (bytes_in edge_records.entry) (weights_before weights.entry) a) }
     ensures bounded { answer result ≡ accepted tt → EdgesBelowEnds K.Kind.below (shape_of graph.now) (weights_after weights.exit) }
 {
-    // Taken apart before the call, since no proof is found where the lent buffers are passed on as one value.
+    // Taken apart before the call, since a parameter that holds `&mut` slices cannot be passed on to a call.
     let WeightsMut { vertices, edges } = weights;
     load_into(graph, vertex_records, edge_records, vertices, edges)
 }
