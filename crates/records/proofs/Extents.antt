@@ -1,12 +1,8 @@
--- Where records lie in their bytes, and the values of all of them. Assumes nothing.
-use Rattle.std.proofs.Common.{◌≡◌, ℕ, suc, ◌+◌, ◌*◌, ◌<◌, ◌≤◌, List, [], ◌∷◌, ◌++◌, length, take, set, sym, ap, ◌∙◌, mul-le-mul_right, suc-mul, zero-add, arith}
+-- The values of all records. Assumes nothing.
+use Rattle.std.proofs.Common.{◌≡◌, ℕ, ◌+◌, ◌<◌, ◌≤◌, List, [], ◌∷◌, ◌++◌, length, take, set, sym, ap, ◌∙◌, zero-add, arith}
 use Rattle.std.proofs.lemmas.List.FromFn.{map-range_with_len_more}
 use Rattle.std.proofs.lemmas.List.{take_all, take_more_set}
 use Rattle.records.specs.Formats.{Format, value_at, value_or, values}
-
--- record i of n lies within them
-pub record_within : (w n i : ℕ) (bytes : List ℕ) → length bytes ≡ n * w → i < n → i * w + w ≤ length bytes
-record_within w n i bytes long below = omega (arith, suc-mul i w, mul-le-mul_right {m = suc i} {n = n} w below)
 
 module _ {K : Type 0} (f : Format K) (d : K) (bytes : List ℕ) where
   -- one value more

@@ -1,7 +1,6 @@
 pub mod Extents
 pub mod Firsts
 pub mod Faults
-pub mod Places
 pub mod Returns
 pub mod Bounds
 pub mod Chunks
