@@ -16,9 +16,7 @@ impl fmt::Display for Word {
     fn fmt<W: fmt::Write>(&self, f: &mut fmt::Formatter<W>) -> fmt::Result {
         match self {
             Word::Step(filter) => {
-                let letter = letter_of(filter.family) as char;
-                let size = filter.size;
-                write!(f, "{letter}{size}")
+                write!(f, "{}{}", letter_of(filter.family) as char, filter.size)
             }
             Word::Hold => write!(f, "H"),
             Word::Join => write!(f, "J"),
