@@ -13,7 +13,7 @@ impl fmt::Display for Word {
     ghost output = { λ w. Some (spelling w) };
 
     fn fmt<W: fmt::Write>(&self, f: &mut fmt::Formatter<W>) -> fmt::Result {
-        f.write_str(self.text().as_str())
+        f.write_str(self.spelling().as_str())
     }
 }
 

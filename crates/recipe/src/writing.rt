@@ -14,6 +14,9 @@ use arrayvec::ArrayString;
 use filters::Family;
 use refusal::Refusal;
 
+/// The most bytes that a word of whatever size takes as text: a letter and the digits of a `u32`.
+const MAX_SPELLING: usize = 11;
+
 /// The most bytes that a recipe takes as text: a word is a letter and at most three digits, and has at most one space before it.
 const MAX_WRITTEN: usize = 5 * MAX_WORDS;
 
@@ -40,8 +43,9 @@ fn last_digit(number: u32) -> char
 }
 
 /// Puts the digits of a number at the end of a text.
-fn push_number(text: &mut ArrayString<MAX_WRITTEN>, number: u32)
-    requires { array_string_len text.old + length (decimal number) ≤ 480 }
+// By hand, since no contract of a format says when it succeeds, and each word has a text.
+fn push_number(text: &mut ArrayString<MAX_SPELLING>, number: u32)
+    requires { array_string_len text.old + length (decimal number) ≤ 11 }
     ensures { text.new.bytes ≡ text.old.bytes ++ decimal number }
 {
     if number >= 10 {
@@ -50,31 +54,23 @@ fn push_number(text: &mut ArrayString<MAX_WRITTEN>, number: u32)
     text.push(last_digit(number));
 }
 
-/// Puts a word at the end of a text.
-#[tactic(auto, using(std::proofs::lemmas::Str::encode_ascii))]
-pub(crate) fn push_word(text: &mut ArrayString<MAX_WRITTEN>, word: Word)
-    requires { array_string_len text.old + length (spelling word) ≤ 480 }
-    ensures { text.new.bytes ≡ text.old.bytes ++ spelling word }
-{
-    match word {
-        Word::Step(filter) => {
-            text.push(letter_of(filter.family));
-            push_number(text, filter.size);
-        }
-        Word::Hold => text.push('H'),
-        Word::Join => text.push('J'),
-        Word::Meet => text.push('M'),
-        Word::Forget => text.push('F'),
-    }
-}
-
 impl Word {
     /// The word as text.
-    pub(crate) fn text(self) -> ArrayString<MAX_WRITTEN>
+    #[tactic(auto, using(std::proofs::lemmas::Str::encode_ascii))]
+    pub(crate) fn spelling(self) -> ArrayString<MAX_SPELLING>
         ensures { result.bytes ≡ spelling self }
     {
         let mut text = ArrayString::new();
-        push_word(&mut text, self);
+        match self {
+            Word::Step(filter) => {
+                text.push(letter_of(filter.family));
+                push_number(&mut text, filter.size);
+            }
+            Word::Hold => text.push('H'),
+            Word::Join => text.push('J'),
+            Word::Meet => text.push('M'),
+            Word::Forget => text.push('F'),
+        }
         text
     }
 }
@@ -86,10 +82,10 @@ impl Recipe {
     {
         let mut text = ArrayString::new();
         if let [first, rest @ ..] = self.words() {
-            push_word(&mut text, *first);
+            text.push_str(first.spelling().as_str());
             for word in rest {
                 text.push(' ');
-                push_word(&mut text, *word);
+                text.push_str(word.spelling().as_str());
             }
         }
         text
