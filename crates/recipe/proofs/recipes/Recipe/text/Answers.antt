@@ -4,13 +4,8 @@ use Rattle.std.proofs.lemmas.Str.{encode_ascii}
 use Rattle.std.proofs.lemmas.List.{flat_map_more, take_more}
 use Rattle.std.specs.List.{between}
 use Rattle.recipe.specs.Written.{spelling, spaced}
-use Rattle.recipe.proofs.Placing.{room, room_next, first, past}
+use Rattle.recipe.proofs.Placing.{room_next, first, past}
 use Rattle.recipe.proofs.recipes.Recipe.text.Goals as goal
-
-pub push_str-requires : goal.push_str-requires
-push_str-requires c =
-    let some : 0 < length c.words.result.now = search rules in
-    omega (arith, ap length c.new-text.ensures, ap length c.as_str.ensures.value, ap length c.spelling.ensures, room c.words.result.now some c.words.ensures.legal)
 
 pub push-requires : goal.push-requires
 push-requires c =
