@@ -24,11 +24,11 @@ module _ (ws : List Word) (some : 0 < length ws) where
   abbrev pub others : List ℕ
   others = flat_map spaced (between 1 (length ws) ws)
 
-  pub written_first : written ws ≡ first ++ others
+  written_first : written ws ≡ first ++ others
   written_first = ap written (first_rest ws past some)
 
   -- the text of a recipe has room
-  pub room : Legal ws → length first + length others ≤ 480
+  room : Legal ws → length first + length others ≤ 480
   room legal = omega (arith, legal.few, short_written ws legal.sizes, ap length written_first, length-append first others)
 
   -- and so it has for one more word, after the first and some of the others

@@ -33,9 +33,7 @@ impl Draft {
         if self.words.is_full() {
             return Err(Refusal::TooManyWords(at));
         }
-        let Some(turn) = self.turn.after(word) else {
-            return Err(Refusal::WordOutOfTurn(at));
-        };
+        let turn = self.turn.after(word).ok_or(Refusal::WordOutOfTurn(at))?;
         self.words.push(word);
         self.turn = turn;
         Ok(())

@@ -45,6 +45,7 @@ impl Recipe {
             return Err(Refusal::TextTooLong);
         }
         let mut draft = Draft::new();
+        // The place is carried by hand, since a split gives the parts of a text and not their places.
         let mut at = 0;
         for word in text.split(|b| *b == b' ') {
             if !word.is_empty() {

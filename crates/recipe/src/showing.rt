@@ -6,7 +6,6 @@ ghost use Rattle.recipe.specs.Written.{spelling, written};
 
 use crate::recipes::Recipe;
 use crate::words::Word;
-use crate::writing::letter_of;
 use std::fmt;
 
 /// A word as in a recipe text: `O3`, `H`.
@@ -14,17 +13,7 @@ impl fmt::Display for Word {
     ghost output = { λ w. Some (spelling w) };
 
     fn fmt<W: fmt::Write>(&self, f: &mut fmt::Formatter<W>) -> fmt::Result {
-        match self {
-            Word::Step(filter) => {
-                let letter = letter_of(filter.family) as char;
-                let size = filter.size;
-                write!(f, "{letter}{size}")
-            }
-            Word::Hold => write!(f, "H"),
-            Word::Join => write!(f, "J"),
-            Word::Meet => write!(f, "M"),
-            Word::Forget => write!(f, "F"),
-        }
+        f.write_str(self.spelling().as_str())
     }
 }
 
@@ -41,14 +30,7 @@ impl fmt::Display for Recipe {
     ghost output = { λ r. Some (written (recipe_words r)) };
 
     fn fmt<W: fmt::Write>(&self, f: &mut fmt::Formatter<W>) -> fmt::Result {
-        let [first, rest @ ..] = self.words() else {
-            return Ok(());
-        };
-        write!(f, "{first}")?;
-        for word in rest {
-            write!(f, " {word}")?;
-        }
-        Ok(())
+        f.write_str(self.text().as_str())
     }
 }
 

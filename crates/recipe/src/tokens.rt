@@ -9,6 +9,7 @@ use filters::{Family, Filter};
 use refusal::Refusal;
 
 /// A word of a right shape. Each case borrows its part of the text, a step its digits, and has the place of the word.
+// Kept as cases that each borrow their part with its place, so that a word says by itself where in the text it stands.
 #[derive(Clone, Copy)]
 pub(crate) enum Token<'a> {
     Step(Family, &'a [u8], usize),
@@ -69,6 +70,7 @@ impl<'a> Token<'a> {
             }
             Ok(token)
         };
+        // Kept as a match on letters, since the letters are the grammar.
         match *first as char {
             'D' => step(Family::Dilation),
             'E' => step(Family::Erosion),

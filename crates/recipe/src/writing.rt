@@ -1,7 +1,7 @@
 //! A recipe as text.
 
-ghost use Rattle.std.specs.Prelude.{◌≡◌, ◌+◌, ◌%◌, ◌≤◌, ◌++◌, length, take, IfOk, decimal};
-ghost use Rattle.arrayvec.specs.ArrayVec.{array_vec_len};
+ghost use Rattle.std.specs.Prelude.{◌≡◌, ◌+◌, ◌%◌, ◌<◌, ◌≤◌, ◌++◌, length, take, IfOk, decimal};
+ghost use Rattle.arrayvec.specs.ArrayString.{array_string_len};
 ghost use Rattle.refusal.specs.Reports.{answer, accepted};
 ghost use Rattle.recipe.specs.Contents.{recipe_words};
 ghost use Rattle.recipe.specs.Grammar.{letter, Text};
@@ -10,38 +10,43 @@ ghost use Rattle.recipe.specs.Written.{spelling, written, write_answer, overwrit
 
 use crate::recipes::Recipe;
 use crate::words::{MAX_WORDS, Word};
-use arrayvec::ArrayVec;
+use arrayvec::ArrayString;
 use filters::Family;
 use refusal::Refusal;
+
+/// The most bytes that a word of whatever size takes as text: a letter and the digits of a `u32`.
+const MAX_SPELLING: usize = 11;
 
 /// The most bytes that a recipe takes as text: a word is a letter and at most three digits, and has at most one space before it.
 const MAX_WRITTEN: usize = 5 * MAX_WORDS;
 
 /// The letter of a family.
 // Kept as a function: `Family` is of another crate, and so are the traits of conversion.
-pub(crate) fn letter_of(family: Family) -> u8
-    ensures { result ≡ letter family }
+fn letter_of(family: Family) -> char
+    ensures is { result ≡ letter family }
+    ensures ascii { result < 128 }
 {
     match family {
-        Family::Dilation => b'D',
-        Family::Erosion => b'E',
-        Family::Opening => b'O',
-        Family::Closing => b'C',
-        Family::Alternate => b'A',
+        Family::Dilation => 'D',
+        Family::Erosion => 'E',
+        Family::Opening => 'O',
+        Family::Closing => 'C',
+        Family::Alternate => 'A',
     }
 }
 
 /// The last decimal digit of a number.
-fn last_digit(number: u32) -> u8
+fn last_digit(number: u32) -> char
     ensures { result ≡ 48 + number % 10 }
 {
-    b'0' + (number % 10) as u8
+    (b'0' + (number % 10) as u8) as char
 }
 
 /// Puts the digits of a number at the end of a text.
-fn push_number(text: &mut ArrayVec<u8, MAX_WRITTEN>, number: u32)
-    requires { array_vec_len text.old + length (decimal number) ≤ 480 }
-    ensures { text.new.items ≡ text.old.items ++ decimal number }
+// By hand, since no contract of a format says when it succeeds, and each word has a text.
+fn push_number(text: &mut ArrayString<MAX_SPELLING>, number: u32)
+    requires { array_string_len text.old + length (decimal number) ≤ 11 }
+    ensures { text.new.bytes ≡ text.old.bytes ++ decimal number }
 {
     if number >= 10 {
         push_number(text, number / 10);
@@ -49,34 +54,38 @@ fn push_number(text: &mut ArrayVec<u8, MAX_WRITTEN>, number: u32)
     text.push(last_digit(number));
 }
 
-/// Puts a word at the end of a text.
-fn push_word(text: &mut ArrayVec<u8, MAX_WRITTEN>, word: Word)
-    requires { array_vec_len text.old + length (spelling word) ≤ 480 }
-    ensures { text.new.items ≡ text.old.items ++ spelling word }
-{
-    match word {
-        Word::Step(filter) => {
-            text.push(letter_of(filter.family));
-            push_number(text, filter.size);
+impl Word {
+    /// The word as text.
+    #[tactic(auto, using(std::proofs::lemmas::Str::encode_ascii))]
+    pub(crate) fn spelling(self) -> ArrayString<MAX_SPELLING>
+        ensures { result.bytes ≡ spelling self }
+    {
+        let mut text = ArrayString::new();
+        match self {
+            Word::Step(filter) => {
+                text.push(letter_of(filter.family));
+                push_number(&mut text, filter.size);
+            }
+            Word::Hold => text.push('H'),
+            Word::Join => text.push('J'),
+            Word::Meet => text.push('M'),
+            Word::Forget => text.push('F'),
         }
-        Word::Hold => text.push(b'H'),
-        Word::Join => text.push(b'J'),
-        Word::Meet => text.push(b'M'),
-        Word::Forget => text.push(b'F'),
+        text
     }
 }
 
 impl Recipe {
     /// The words with one space between.
-    fn text(&self) -> ArrayVec<u8, MAX_WRITTEN>
-        ensures { result.items ≡ written (recipe_words self.now) }
+    pub(crate) fn text(&self) -> ArrayString<MAX_WRITTEN>
+        ensures { result.bytes ≡ written (recipe_words self.now) }
     {
-        let mut text = ArrayVec::new();
+        let mut text = ArrayString::new();
         if let [first, rest @ ..] = self.words() {
-            push_word(&mut text, *first);
+            text.push_str(first.spelling().as_str());
             for word in rest {
-                text.push(b' ');
-                push_word(&mut text, *word);
+                text.push(' ');
+                text.push_str(word.spelling().as_str());
             }
         }
         text
@@ -103,7 +112,7 @@ impl Recipe {
         if buffer.len() < len {
             return Err(Refusal::TextBufferTooShort);
         }
-        buffer[..len].copy_from_slice(text.as_slice());
+        buffer[..len].copy_from_slice(text.as_str().as_bytes());
         Ok(len)
     }
 }

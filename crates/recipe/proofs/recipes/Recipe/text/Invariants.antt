@@ -5,4 +5,4 @@ use Rattle.recipe.specs.Written.{spaced}
 use Rattle.recipe.proofs.recipes.Recipe.text.Given as goal
 
 abbrev pub invariant-loop-word : goal.invariant-loop-word
-invariant-loop-word l = l.text.items ≡ l.initial.text.items ++ flat_map spaced (take l.word-index l.rest)
+invariant-loop-word l = l.text.bytes ≡ l.initial.text.bytes ++ flat_map spaced (take l.word-index l.rest)
