@@ -7,8 +7,8 @@ use lattice::Kind;
 use recipe::Recipe;
 use sheet::{Clear, Holding, Refused, Sheet};
 
-// A call. There are two texts to run, the one and the other. Kept beside the calls, since a story is an array of N calls and
-// the borrow checker does not cover such an array where it holds references.
+// A call. There are two texts to run, the one and the other. Kept beside the calls, since the length of a story
+// is a const parameter, and the borrow checker does not cover an array of such a length where it holds references.
 #[derive(Clone, Copy)]
 pub enum Call {
     Step(Filter),
