@@ -258,7 +258,7 @@ fn filters_commute_with_class_picks(rt: HostRuntime) -> Result<(), Fail> {
 
 // Which of the vertices have exactly 5. This is no reading: it does not keep joins.
 fn exactly_five(weights: [Level; 5]) -> [Presence; 5] {
-    presences(weights.map(|weight| u8::from(weight.value() == 5)))
+    weights.map(|weight| Presence::from(weight.value() == 5))
 }
 
 #[test]

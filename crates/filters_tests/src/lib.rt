@@ -2,6 +2,8 @@
 
 #![tactic(auto)]
 
+// The cases are of one shape, each with its own values, and stand apart so that each can be read by itself.
+
 #[cfg(test)]
 mod laws;
 #[cfg(test)]

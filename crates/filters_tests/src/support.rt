@@ -7,6 +7,9 @@ use refusal::{Part, Refusal};
 use std::process::Abort;
 use std::test::Fail;
 
+// `edge`, `reversed`, `outcome` and `graph_of` stand in other test crates too. A crate for them would be a library, and each of
+// its public functions would owe a contract and a must-fail edit, for three lines.
+
 // A function for each letter, as a recipe names the filters: `d(1)` for `D1`.
 
 pub(crate) fn d(size: u32) -> Filter {
@@ -53,7 +56,8 @@ pub(crate) fn path() -> [Edge; 4] {
     [edge(0, 1), edge(1, 2), edge(2, 3), edge(3, 4)]
 }
 
-// Weights of these values, each made in the same way.
+// Weights of these values, each made in the same way. Kept as a loop, since `map` over an array of N does not prove: its
+// `map-requires` stays open.
 fn weights<V: Copy, K: Kind, Make: Fn(V) -> K, const N: usize>(values: [V; N], make: Make) -> [K; N]
     requires { Make.IsAlwaysCallable make }
 {
@@ -78,13 +82,7 @@ pub(crate) fn reversed<const N: usize>(values: [u16; N]) -> [Reversed<Level>; N]
 }
 
 pub(crate) fn presences<const N: usize>(values: [u8; N]) -> [Presence; N] {
-    weights(values, |value| {
-        if value == 1 {
-            Presence::Present
-        } else {
-            Presence::Absent
-        }
-    })
+    weights(values, |value| Presence::from(value == 1))
 }
 
 // Two vertices and their edge as sets of classes, by their bits.

@@ -5,6 +5,9 @@
 use graph::{Edge, Graph, check_file, judge};
 use refusal::{Part, Refusal};
 
+// `outcome` and `edge` stand in other test crates too. A crate for them would be a library, and each of its public functions
+// would owe a contract and a must-fail edit, for three lines.
+
 /// What a call answers: a refusal by its number, its place and its part.
 type Outcome = Result<(), (u8, usize, Part)>;
 

@@ -4,6 +4,9 @@ use refusal::{Part, Refusal};
 use std::process::Abort;
 use std::test::Fail;
 
+// `reversed` stands in other test crates too. A crate for it would be a library, and each of its public functions would owe a
+// contract and a must-fail edit, for three lines.
+
 fn reversed(value: u16) -> Reversed<Level> {
     Reversed {
         inner: Level::new(value),
@@ -33,7 +36,7 @@ fn sizes(rt: HostRuntime) {
     assert_eq!(rt; std::mem::size_of::<ClassPick>(), 1);
 }
 
-// No contract speaks of a constant.
+// How many bytes a record of each kind has.
 #[test]
 fn widths(rt: HostRuntime) {
     assert_eq!(rt; Presence::WIDTH, 1);

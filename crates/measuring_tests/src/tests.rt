@@ -4,6 +4,9 @@ use lattice::Level;
 use measuring::{Buffers, parse_filter, parse_grid, parse_random, parse_repeat};
 use std::process::Abort;
 
+// `edge` and `graph_of` stand in other test crates too. A crate for them would be a library, and each of its public functions
+// would owe a contract and a must-fail edit, for three lines.
+
 fn edge(first: u32, second: u32) -> Edge {
     Edge { first, second }
 }

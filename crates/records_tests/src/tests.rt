@@ -7,6 +7,9 @@ use std::process::Abort;
 
 // The cases are of one shape, each with its own values, and stand apart so that each can be read by itself.
 
+// `outcome`, `edge`, `graph_of` and `reversed` stand in other test crates too. A crate for them would be a library, and each of
+// its public functions would owe a contract and a must-fail edit, for three lines.
+
 /// What a call answers: a refusal by its number, its place and its part.
 type Outcome = Result<(), (u8, usize, Part)>;
 

@@ -157,18 +157,6 @@ fn edge_records_in_order(rt: HostRuntime) {
     refused_presences(&rt, &[0, 1, 0], Some(&[0, 1]), 10, 1);
 }
 
-fn turned<const N: usize>(values: [u16; N]) -> [Reversed<Level>; N] {
-    let mut weights = [Reversed {
-        inner: Level::new(0),
-    }; N];
-    for (weight, value) in weights.iter_mut().zip(values.iter()) {
-        *weight = Reversed {
-            inner: Level::new(*value),
-        };
-    }
-    weights
-}
-
 // In the turned order the meet is the larger, and an edge is below its ends where it is above them in number.
 #[test]
 fn reversed_levels(rt: HostRuntime) {
@@ -176,10 +164,10 @@ fn reversed_levels(rt: HostRuntime) {
         first: 0,
         second: 1,
     }];
-    let before = (turned([9; 2]), turned([8]));
+    let before = (reversed([9; 2]), reversed([8]));
     assert_eq!(rt;
         opened(2, &rows, &[4, 0, 6, 0], None, before),
-        (ACCEPTED, (turned([4, 6]), turned([6])))
+        (ACCEPTED, (reversed([4, 6]), reversed([6])))
     );
     assert_eq!(rt;
         opened(2, &rows, &[4, 0, 6, 0], Some(&[5, 0]), before),

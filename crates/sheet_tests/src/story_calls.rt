@@ -7,7 +7,8 @@ use lattice::Kind;
 use recipe::Recipe;
 use sheet::{Clear, Holding, Refused, Sheet};
 
-// A call. There are two texts to run, the one and the other.
+// A call. There are two texts to run, the one and the other. Kept beside the calls, since the length of a story
+// is a const parameter, and the borrow checker does not cover an array of such a length where it holds references.
 #[derive(Clone, Copy)]
 pub enum Call {
     Step(Filter),

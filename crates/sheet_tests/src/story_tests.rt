@@ -27,19 +27,19 @@ fn tell<K: Kind>(
 ) {
     let mut current = start;
     let mut state = State::Clear(sheet);
-    for (i, (call, short)) in story.iter().enumerate() {
+    for (((call, short), answer), left) in story
+        .iter()
+        .zip(answers.iter_mut())
+        .zip(after.iter_mut())
+    {
         let run = match call {
             Call::RunOther => other_text,
             _ => text,
         };
-        let (next, answer) = make_call(state, *call, *short, run, place, &mut current);
+        let (next, answered) = make_call(state, *call, *short, run, place, &mut current);
         state = next;
-        if let Some(slot) = answers.get_mut(i) {
-            *slot = answer;
-        }
-        if let Some(slot) = after.get_mut(i) {
-            *slot = current;
-        }
+        *answer = answered;
+        *left = current;
     }
 }
 

@@ -2,8 +2,11 @@
 
 use filters::{Family, Filter};
 use graph::{Edge, Graph, judge};
-use lattice::{Level, Presence};
+use lattice::{Kind, Level, Presence, Reversed};
 use refusal::{Part, Refusal};
+
+// `graph_of` and `reversed` stand in other test crates too. A crate for them would be a library, and each of its public functions
+// would owe a contract and a must-fail edit, for three lines.
 
 pub(crate) fn filter(family: Family, size: u32) -> Filter {
     Filter { family, size }
@@ -16,22 +19,33 @@ pub(crate) fn graph_of<'a>(n: usize, rows: &'a [Edge]) -> Graph<'a> {
     graph
 }
 
-pub(crate) fn levels<const N: usize>(values: [u16; N]) -> [Level; N] {
-    let mut weights = [Level::new(0); N];
+// Weights of these values, each made in the same way. Kept as a loop, since `map` over an array of N does not prove: its
+// `map-requires` stays open.
+fn weights<V: Copy, K: Kind, Make: Fn(V) -> K, const N: usize>(values: [V; N], make: Make) -> [K; N]
+    requires { Make.IsAlwaysCallable make }
+{
+    let mut weights = [K::lowest(); N];
     for (weight, value) in weights.iter_mut().zip(values.iter()) {
-        *weight = Level::new(*value);
+        *weight = make(*value);
     }
     weights
 }
 
+pub(crate) fn levels<const N: usize>(values: [u16; N]) -> [Level; N] {
+    weights(values, Level::new)
+}
+
+pub(crate) fn reversed<const N: usize>(values: [u16; N]) -> [Reversed<Level>; N] {
+    weights(
+        values,
+        |value| Reversed {
+            inner: Level::new(value),
+        },
+    )
+}
+
 pub(crate) fn presences<const N: usize>(values: [u8; N]) -> [Presence; N] {
-    let mut weights = [Presence::Absent; N];
-    for (weight, value) in weights.iter_mut().zip(values.iter()) {
-        if *value == 1 {
-            *weight = Presence::Present;
-        }
-    }
-    weights
+    weights(values, |value| Presence::from(value == 1))
 }
 
 // Levels on the path.
