@@ -1,7 +1,10 @@
 use filters::{Family, Filter};
 use graph::{Edge, Graph, judge};
 use lattice::Level;
-use measuring::{Buffers, parse_filter, parse_grid, parse_random, parse_repeat};
+use measuring::{
+    Buffers, checksum_levels, checksum_records, parse_filter, parse_grid, parse_random,
+    parse_repeat,
+};
 use std::process::Abort;
 
 fn edge(first: u32, second: u32) -> Edge {
@@ -78,6 +81,22 @@ fn lowest_weights_become_others(rt: HostRuntime) -> anyhow::Result<()> {
     assert_eq!(rt; weights.vertices.as_slice(), start.vertices.as_slice());
     assert_eq!(rt; weights.edges.as_slice(), start.edges.as_slice());
     Ok(())
+}
+
+#[test]
+fn checksums(rt: HostRuntime) {
+    assert_eq!(rt; checksum_records(b"", b""), 14695981039346656037);
+    assert_eq!(rt; checksum_records(b"a", b""), 12638187200555641996);
+    assert_eq!(rt; checksum_records(b"", b"a"), 12638187200555641996);
+    let vertices = [level(0), level(258), level(65535)];
+    let edges = [level(513)];
+    assert_eq!(rt; checksum_levels(&vertices, &edges), 3619318588698978377);
+    let vertex_records = [0, 0, 2, 1, 255, 255];
+    let edge_records = [1, 2];
+    assert_eq!(rt;
+        checksum_records(&vertex_records, &edge_records),
+        3619318588698978377
+    );
 }
 
 #[test]
