@@ -1,5 +1,9 @@
 //! Runs of a filter, and their times.
 
+// Kept here and in `bench_sheet`: `main`, `perform`, `measure`, `print_result`, and the clock around a call (here in
+// `time_apply`, there in `timed`). A function of both that took the time or printed could promise nothing of it, and one that lent
+// its graph to a closure would have to be public with a `requires`. The usage and the number of decimals differ too.
+
 use crate::jobs::Job;
 use anyhow::anyhow;
 use filters::Filter;

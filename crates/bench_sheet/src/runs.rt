@@ -1,5 +1,9 @@
 //! Runs of a task, and their times.
 
+// Kept here and in `bench`: `main`, `perform`, `measure`, `print_result`, and the clock around a call (here in
+// `timed`, there in `time_apply`). A function of both that took the time or printed could promise nothing of it, and one that lent
+// its graph to a closure would have to be public with a `requires`. The usage and the number of decimals differ too.
+
 use crate::jobs::{Job, Task};
 use crate::records::{Records, clear};
 use anyhow::anyhow;

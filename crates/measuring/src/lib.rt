@@ -12,4 +12,4 @@ mod words;
 pub use checksums::{checksum_levels, checksum_records};
 pub use levels::Buffers;
 pub use meshes::{Grid, Mesh, Random};
-pub use words::{parse_filter, parse_grid, parse_random, parse_repeat};
+pub use words::{parse_filter, parse_mesh, parse_repeat};
