@@ -2,7 +2,7 @@
 
 use anyhow::anyhow;
 use filters::Filter;
-use measuring::{Mesh, parse_filter, parse_grid, parse_random, parse_repeat};
+use measuring::{Mesh, parse_filter, parse_mesh, parse_repeat};
 
 /// A filter to be run on a mesh so many times.
 #[derive(Clone, Copy)]
@@ -15,19 +15,7 @@ pub struct Job {
 impl Job {
     /// Reads the arguments after the program's name.
     pub(crate) fn parse(words: &[String]) -> anyhow::Result<Job> {
-        match words {
-            [mesh, width, height, rest @ ..] if mesh.as_str() == "grid" => {
-                Job::on(parse_grid(width.as_str(), height.as_str())?, rest)
-            }
-            [mesh, n, m, seed, rest @ ..] if mesh.as_str() == "random" => {
-                Job::on(parse_random(n.as_str(), m.as_str(), seed.as_str())?, rest)
-            }
-            _ => Err(anyhow!("the arguments begin with: grid W H, or random N M SEED")),
-        }
-    }
-
-    /// Reads the arguments after those of the mesh.
-    fn on(mesh: Mesh, words: &[String]) -> anyhow::Result<Job> {
+        let (mesh, words) = parse_mesh(words)?;
         let [letter, size, repeat] = words else {
             return Err(anyhow!("the arguments end with: LETTER SIZE REPEAT"));
         };

@@ -6,7 +6,6 @@
 
 #![tactic(auto)]
 
-mod checksums;
 mod jobs;
 mod runs;
 

@@ -1,11 +1,14 @@
 //! Runs of a filter, and their times.
 
-use crate::checksums::checksum;
+// Kept here and in `bench_sheet`: `main`, `perform`, `measure`, `print_result`, and the clock around a call (here in
+// `time_apply`, there in `timed`). A function of both that took the time or printed could promise nothing of it, and one that lent
+// its graph to a closure would have to be public with a `requires`. The usage and the number of decimals differ too.
+
 use crate::jobs::Job;
 use anyhow::anyhow;
 use filters::Filter;
 use graph::{Graph, judge};
-use measuring::Buffers;
+use measuring::{Buffers, checksum_levels};
 use std::time::{Duration, Instant};
 
 /// The time of one application of a filter.
@@ -49,7 +52,8 @@ fn repeat_on(rt: &HostRuntime, job: Job, graph: &Graph) -> anyhow::Result<()> {
         weights.copy_from(&start)?;
         times.push(time_apply(rt, job.filter, graph, &mut weights, &mut scratch)?)?;
     }
-    print_result(rt, &mut times, checksum(&weights))
+    let checksum = checksum_levels(weights.vertices.as_slice(), weights.edges.as_slice());
+    print_result(rt, &mut times, checksum)
 }
 
 /// Does a job: makes its graph, runs its filter, and prints the result.

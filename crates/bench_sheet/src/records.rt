@@ -1,4 +1,4 @@
-//! The records of weights, and their checksum.
+//! The records of weights.
 
 use filters::fill;
 use lattice::{Kind, Level};
@@ -32,12 +32,6 @@ impl Records {
         fill(self.vertices.as_mut_slice(), 0);
         fill(self.edges.as_mut_slice(), 0);
     }
-
-    /// The 64-bit FNV-1a hash of the records of the vertices and then of the edges.
-    pub(crate) fn checksum(&self) -> u64 {
-        let hash = hash_on(14695981039346656037, self.vertices.as_slice());
-        hash_on(hash, self.edges.as_slice())
-    }
 }
 
 /// Two bytes for each weight, the low one first.
@@ -47,11 +41,4 @@ fn bytes_of(heap: Global, weights: &[Level]) -> anyhow::Result<Vec<u8>> {
         bytes.extend_from_slice(&weight.value().to_le_bytes())?;
     }
     Ok(bytes)
-}
-
-/// The hash after these bytes, from the hash before them.
-fn hash_on(hash: u64, bytes: &[u8]) -> u64 {
-    bytes.iter().fold(hash, |hash, byte| {
-        (hash ^ u64::from(*byte)).wrapping_mul(1099511628211)
-    })
 }

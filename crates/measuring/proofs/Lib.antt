@@ -1,3 +1,4 @@
 -- The lemmas that several proofs share.
 mod Drawing
+mod Naming
 mod Rising

@@ -1,3 +1,4 @@
+pub mod Checksums
 pub mod Draws
 pub mod Meshes
 pub mod Starts

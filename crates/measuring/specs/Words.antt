@@ -1,5 +1,5 @@
 -- What the arguments of a benchmark say. Assumes nothing.
-use Rattle.std.specs.Prelude.{◌≡◌, ℕ, ◌*◌, ◌-◌, ◌/◌, ◌≤◌, List, codes, MatchResult, Ok, Result}
+use Rattle.std.specs.Prelude.{◌≡◌, ℕ, ◌*◌, ◌-◌, ◌/◌, ◌≤◌, ◌⊎◌, List, [], ◌∷◌, String, codes, string_bytes, MatchResult, Ok, Result}
 use Rattle.std.specs.Str.Parse.{ParsesUnsigned}
 use Rattle.filters.specs.declared.families.Family.{Family}
 use Rattle.filters.specs.declared.families.Family.TheVariants.{Dilation, Erosion, Opening, Closing, Alternate}
@@ -32,6 +32,25 @@ GridWords width height (Random r) = ⊥
 abbrev pub RandomWords : List ℕ → List ℕ → List ℕ → Mesh → Type 0
 RandomWords n m seed (Grid g) = ⊥
 RandomWords n m seed (Random r) = Writes 32 n r.n × Writes 32 m r.m × Writes 64 seed r.seed × SparseMesh r.n r.m
+
+-- the words begin with `grid` and the two that say the mesh, and these follow
+abbrev pub BeginsWithGrid : {A : Type 0} → List (String A) → Mesh → List (String A) → Type 0
+BeginsWithGrid (kind ∷ width ∷ height ∷ after) mesh rest = (string_bytes kind ≡ codes "grid") × GridWords (string_bytes width) (string_bytes height) mesh × (rest ≡ after)
+BeginsWithGrid (kind ∷ width ∷ []) mesh rest = ⊥
+BeginsWithGrid (kind ∷ []) mesh rest = ⊥
+BeginsWithGrid [] mesh rest = ⊥
+
+-- the words begin with `random` and the three that say the mesh, and these follow
+abbrev pub BeginsWithRandom : {A : Type 0} → List (String A) → Mesh → List (String A) → Type 0
+BeginsWithRandom (kind ∷ n ∷ m ∷ seed ∷ after) mesh rest = (string_bytes kind ≡ codes "random") × RandomWords (string_bytes n) (string_bytes m) (string_bytes seed) mesh × (rest ≡ after)
+BeginsWithRandom (kind ∷ n ∷ m ∷ []) mesh rest = ⊥
+BeginsWithRandom (kind ∷ n ∷ []) mesh rest = ⊥
+BeginsWithRandom (kind ∷ []) mesh rest = ⊥
+BeginsWithRandom [] mesh rest = ⊥
+
+-- the words begin with those that say the mesh, and these follow
+abbrev pub MeshWords : {A : Type 0} → List (String A) → Mesh → List (String A) → Type 0
+MeshWords words mesh rest = BeginsWithGrid words mesh rest ⊎ BeginsWithRandom words mesh rest
 
 -- the letter of a family
 abbrev pub letter_of : Family → List ℕ

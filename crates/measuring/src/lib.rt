@@ -2,12 +2,14 @@
 
 #![tactic(auto)]
 
+mod checksums;
 mod generator;
 mod levels;
 mod meshes;
 mod tables;
 mod words;
 
+pub use checksums::{checksum_levels, checksum_records};
 pub use levels::Buffers;
 pub use meshes::{Grid, Mesh, Random};
-pub use words::{parse_filter, parse_grid, parse_random, parse_repeat};
+pub use words::{parse_filter, parse_mesh, parse_repeat};

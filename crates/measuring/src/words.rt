@@ -1,14 +1,29 @@
 //! What the arguments of a benchmark say.
 
 ghost use Rattle.std.specs.Prelude.{◌≡◌, MatchOption, Decides};
-ghost use Rattle.measuring.specs.Words.{Reads, letter_of, SizeWord, SmallGrid, GridWords, SparseMesh, RandomWords, FilterWords, RepeatWord};
+ghost use Rattle.measuring.specs.Words.{Reads, letter_of, SizeWord, SmallGrid, GridWords, SparseMesh, RandomWords, MeshWords, FilterWords, RepeatWord};
 
 use crate::meshes::{Grid, Mesh, Random};
 use anyhow::anyhow;
 use filters::{Family, Filter};
 
+/// Reads the words that begin with a mesh, `grid W H` or `random N M SEED`, and answers the mesh and the words after them.
+pub fn parse_mesh(words: &[String]) -> anyhow::Result<(Mesh, &[String])>
+    ensures { Reads (λ read. MeshWords words.now read.0 read.1.now) result }
+{
+    match words {
+        [kind, width, height, rest @ ..] if kind.as_str() == "grid" => {
+            Ok((parse_grid(width.as_str(), height.as_str())?, rest))
+        }
+        [kind, n, m, seed, rest @ ..] if kind.as_str() == "random" => {
+            Ok((parse_random(n.as_str(), m.as_str(), seed.as_str())?, rest))
+        }
+        _ => Err(anyhow!("the arguments begin with: grid W H, or random N M SEED")),
+    }
+}
+
 /// Reads the two arguments of a grid: its width and height, at least 1 each and at most 1,000,000 vertices together.
-pub fn parse_grid(width: &str, height: &str) -> anyhow::Result<Mesh>
+fn parse_grid(width: &str, height: &str) -> anyhow::Result<Mesh>
     ensures { Reads (GridWords width.now height.now) result }
 {
     if let (Ok(width), Ok(height)) = (width.parse::<u32>(), height.parse::<u32>())
@@ -21,7 +36,7 @@ pub fn parse_grid(width: &str, height: &str) -> anyhow::Result<Mesh>
 
 /// Reads the three arguments of a random mesh: 2 to 1,000,000 vertices, at most 4,000,000 edges, which are at most half of those that
 /// there can be, and a seed.
-pub fn parse_random(n: &str, m: &str, seed: &str) -> anyhow::Result<Mesh>
+fn parse_random(n: &str, m: &str, seed: &str) -> anyhow::Result<Mesh>
     ensures { Reads (RandomWords n.now m.now seed.now) result }
 {
     let Ok(seed) = seed.parse::<u64>() else {
