@@ -1,10 +1,10 @@
 //! Checksums of weights.
 
+use buffers::Buffers;
 use lattice::Level;
-use measuring::Buffers;
 
 /// The 64-bit FNV-1a hash of the weights of the vertices and then of the edges, two bytes each, the low one first.
-pub(crate) fn checksum(weights: &Buffers) -> u64 {
+pub(crate) fn checksum(weights: &Buffers<Level>) -> u64 {
     let hash = hash_on(14695981039346656037, weights.vertices.as_slice());
     hash_on(hash, weights.edges.as_slice())
 }

@@ -1,7 +1,8 @@
+use buffers::Buffers;
 use filters::{Family, Filter};
 use graph::{Edge, Graph, judge};
 use lattice::Level;
-use measuring::{Buffers, parse_filter, parse_grid, parse_random, parse_repeat};
+use measuring::{parse_filter, parse_grid, parse_random, parse_repeat};
 use std::process::Abort;
 
 fn edge(first: u32, second: u32) -> Edge {
@@ -51,7 +52,7 @@ fn edges_of_a_random_mesh(rt: HostRuntime) -> anyhow::Result<()> {
 fn starting_weights(rt: HostRuntime) -> anyhow::Result<()> {
     let rows = [edge(0, 1), edge(1, 2)];
     let graph = graph_of(&rt, 3, &rows);
-    let weights = Buffers::starting(rt.alloc(), &graph)?;
+    let weights = measuring::starting_weights(rt.alloc(), &graph)?;
     assert_eq!(rt;
         weights.vertices.as_slice(),
         [level(27735), level(33384), level(42490)].as_slice()
@@ -67,7 +68,7 @@ fn starting_weights(rt: HostRuntime) -> anyhow::Result<()> {
 fn lowest_weights_become_others(rt: HostRuntime) -> anyhow::Result<()> {
     let rows = [edge(0, 1), edge(1, 2)];
     let graph = graph_of(&rt, 3, &rows);
-    let start = Buffers::starting(rt.alloc(), &graph)?;
+    let start = measuring::starting_weights(rt.alloc(), &graph)?;
     let mut weights = Buffers::lowest(rt.alloc(), 3, 2)?;
     assert_eq!(rt;
         weights.vertices.as_slice(),
