@@ -6,9 +6,11 @@
 
 use crate::jobs::Job;
 use anyhow::anyhow;
+use buffers::Buffers;
 use filters::Filter;
 use graph::{Graph, judge};
-use measuring::{Buffers, checksum_levels};
+use lattice::Level;
+use measuring::{checksum_levels, starting_weights};
 use std::time::{Duration, Instant};
 
 /// The time of one application of a filter.
@@ -16,8 +18,8 @@ fn time_apply(
     rt: &HostRuntime,
     filter: Filter,
     graph: &Graph,
-    weights: &mut Buffers,
-    scratch: &mut Buffers,
+    weights: &mut Buffers<Level>,
+    scratch: &mut Buffers<Level>,
 ) -> anyhow::Result<Duration> {
     let start = Instant::now(rt)?;
     let answer = filter.apply(graph, weights.lend(), scratch.lend());
@@ -44,7 +46,7 @@ fn repeat_on(rt: &HostRuntime, job: Job, graph: &Graph) -> anyhow::Result<()> {
     let heap = rt.alloc();
     let n = graph.order();
     let m = graph.edges().len();
-    let start = Buffers::starting(heap, graph)?;
+    let start = starting_weights(heap, graph)?;
     let mut weights = Buffers::lowest(heap, n, m)?;
     let mut scratch = Buffers::lowest(heap, n, m)?;
     let mut times = Vec::new(heap);

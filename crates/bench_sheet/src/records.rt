@@ -1,12 +1,12 @@
 //! The records of weights.
 
+use buffers::Buffers;
 use filters::fill;
 use lattice::{Kind, Level};
-use measuring::Buffers;
 use std::alloc::Global;
 
 /// Makes all weights lowest.
-pub(crate) fn clear(weights: &mut Buffers) {
+pub(crate) fn clear(weights: &mut Buffers<Level>) {
     fill(weights.vertices.as_mut_slice(), Level::lowest());
     fill(weights.edges.as_mut_slice(), Level::lowest());
 }
@@ -20,7 +20,7 @@ pub struct Records {
 
 impl Records {
     /// The records of weights, written byte by byte.
-    pub(crate) fn of(heap: Global, weights: &Buffers) -> anyhow::Result<Records> {
+    pub(crate) fn of(heap: Global, weights: &Buffers<Level>) -> anyhow::Result<Records> {
         Ok(Records {
             vertices: bytes_of(heap, weights.vertices.as_slice())?,
             edges: bytes_of(heap, weights.edges.as_slice())?,

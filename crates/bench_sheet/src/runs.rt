@@ -7,10 +7,11 @@
 use crate::jobs::{Job, Task};
 use crate::records::{Records, clear};
 use anyhow::anyhow;
-use filters::{Filter, Weights};
+use buffers::Buffers;
+use filters::Filter;
 use graph::{Graph, judge};
 use lattice::Level;
-use measuring::{Buffers, checksum_levels, checksum_records};
+use measuring::{checksum_levels, checksum_records, starting_weights};
 use refusal::Refusal;
 use sheet::{Clear, Sheet};
 use std::alloc::Global;
@@ -19,10 +20,10 @@ use std::time::{Duration, Instant};
 /// The buffers of all runs.
 #[derive(Drop)]
 struct Bench {
-    start: Buffers,
+    start: Buffers<Level>,
     start_records: Records,
-    weights: Buffers,
-    scratch: Buffers,
+    weights: Buffers<Level>,
+    scratch: Buffers<Level>,
     records: Records,
 }
 
@@ -30,7 +31,7 @@ impl Bench {
     fn new(heap: Global, graph: &Graph) -> anyhow::Result<Bench> {
         let n = graph.order();
         let m = graph.edges().len();
-        let start = Buffers::starting(heap, graph)?;
+        let start = starting_weights(heap, graph)?;
         let start_records = Records::of(heap, &start)?;
         let records = Records::of(heap, &start)?;
         Ok(Bench {
@@ -91,7 +92,7 @@ fn open<'g, 'e>(
     graph: &'g Graph<'e>,
     records: &[u8],
     edge_records: Option<&[u8]>,
-    weights: &mut Buffers,
+    weights: &mut Buffers<Level>,
 ) -> Result<Sheet<'g, 'e, Level, Clear>, Refusal> {
     Sheet::open(graph, records, edge_records, weights.lend())
 }
@@ -116,7 +117,7 @@ fn time_open(
     rt: &HostRuntime,
     graph: &Graph,
     records: &[u8],
-    weights: &mut Buffers,
+    weights: &mut Buffers<Level>,
 ) -> anyhow::Result<Duration> {
     timed(rt, "opening", || open(graph, records, None, weights))
 }
@@ -126,8 +127,8 @@ fn time_step(
     rt: &HostRuntime,
     filter: Filter,
     graph: &Graph,
-    weights: &mut Buffers,
-    scratch: &mut Buffers,
+    weights: &mut Buffers<Level>,
+    scratch: &mut Buffers<Level>,
 ) -> anyhow::Result<Duration> {
     timed(
         rt,
@@ -141,16 +142,13 @@ fn time_close(
     rt: &HostRuntime,
     graph: &Graph,
     start_records: &[u8],
-    weights: &mut Buffers,
+    weights: &mut Buffers<Level>,
     records: &mut Records,
 ) -> anyhow::Result<Duration> {
     let sheet = open(graph, start_records, None, weights).map_err(|_| anyhow!(
         "opening was refused"
     ))?;
-    let weights = Weights {
-        vertices: weights.vertices.as_slice(),
-        edges: weights.edges.as_slice(),
-    };
+    let weights = weights.weights();
     let vertex_records = records.vertices.as_mut_slice();
     let edge_records = records.edges.as_mut_slice();
     timed(

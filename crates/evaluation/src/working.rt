@@ -2,51 +2,22 @@
 
 ghost use Rattle.std.specs.Prelude.{◌≡◌, ◌*◌, length, IfOk};
 ghost use Rattle.graph.specs.Shapes.{shape_of};
-ghost use Rattle.filters.specs.Weightings.{Fits, weighting, weights_before};
+ghost use Rattle.filters.specs.Weightings.{Fits, weights_before};
 ghost use Rattle.records.specs.Calls.{bytes_of_both};
 ghost use Rattle.evaluation.specs.Evaluations.{Gives, evaluated_on, input, stored_kind};
 ghost use Rattle.evaluation.specs.Sizes.{Sized};
 ghost use Rattle.evaluation.specs.Steps.{Counts, CountsInMemory};
 
 use crate::jobs::{Evaluated, Failure, Job};
+use buffers::Buffers;
 use calls::Progress;
 use filters::{Weights, WeightsMut};
 use graph::Graph;
-use lattice::{Kind, Stored};
+use lattice::Stored;
 use recipe::Recipe;
 use refusal::Refusal;
 use sheet::Sheet;
-use std::alloc::{AllocError, Global};
-
-/// Memory for the weights of a graph.
-#[derive(Drop)]
-struct Memory<K> {
-    vertices: Vec<K>,
-    edges: Vec<K>,
-}
-
-impl<K: Kind> Memory<K> {
-    /// A weight for each vertex and each edge. Which they are plays no part: the work begins by writing over them.
-    fn new(heap: Global, graph: &Graph) -> Result<Memory<K>, AllocError>
-        ensures { IfOk result (λ m. Fits (shape_of graph.now) (weighting m.vertices.items m.edges.items)) }
-    {
-        let mut vertices = Vec::new(heap);
-        vertices.resize(graph.order(), K::lowest())?;
-        let mut edges = Vec::new(heap);
-        edges.resize(graph.edges().len(), K::lowest())?;
-        Ok(Memory { vertices, edges })
-    }
-
-    /// The weights, for a call to work on. What it leaves in them is read by nobody.
-    fn lend(&mut self) -> WeightsMut<'_, '_, K>
-        ensures { weights_before result ≡ weighting self.old.vertices.items self.old.edges.items }
-    {
-        WeightsMut {
-            vertices: &mut self.vertices,
-            edges: &mut self.edges,
-        }
-    }
-}
+use std::alloc::Global;
 
 /// Opens the sheet of a graph, runs the recipe on it and closes it to the byte buffers. Answers how many words were done.
 fn work<K: Stored, P: Progress>(
@@ -66,6 +37,7 @@ fn work<K: Stored, P: Progress>(
     requires edge_records { length edge_records.old ≡ length graph.now.edges.now * K.Stored.WIDTH }
     ensures { Counts (evaluated_on (stored_kind K.Kind.operations K.Kind.leq K.Stored.WIDTH K.Stored.parsed K.Stored.written) (shape_of graph.now) (input job.entry)) (shape_of graph.now) (bytes_of_both vertex_records.new edge_records.new) result }
 {
+    // Taken apart and made again, since a parameter that holds a `&mut` slice cannot be passed on as it came.
     let WeightsMut { vertices, edges } = scratch;
     let scratch = WeightsMut { vertices, edges };
     let WeightsMut { vertices, edges } = held;
@@ -98,9 +70,11 @@ fn work_in_memory<K: Stored, P: Progress>(
     requires edge_records { length edge_records.old ≡ length graph.now.edges.now * K.Stored.WIDTH }
     ensures { CountsInMemory (evaluated_on (stored_kind K.Kind.operations K.Kind.leq K.Stored.WIDTH K.Stored.parsed K.Stored.written) (shape_of graph.now) (input job.entry)) (shape_of graph.now) (bytes_of_both vertex_records.new edge_records.new) result }
 {
-    let mut weights = Memory::<K>::new(heap, graph)?;
-    let mut scratch = Memory::<K>::new(heap, graph)?;
-    let mut held = Memory::<K>::new(heap, graph)?;
+    let n = graph.order();
+    let m = graph.edges().len();
+    let mut weights = Buffers::<K>::lowest(heap, n, m)?;
+    let mut scratch = Buffers::<K>::lowest(heap, n, m)?;
+    let mut held = Buffers::<K>::lowest(heap, n, m)?;
     let words = work(
         graph,
         job,

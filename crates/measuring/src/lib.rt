@@ -10,6 +10,6 @@ mod tables;
 mod words;
 
 pub use checksums::{checksum_levels, checksum_records};
-pub use levels::Buffers;
+pub use levels::starting_weights;
 pub use meshes::{Grid, Mesh, Random};
 pub use words::{parse_filter, parse_mesh, parse_repeat};

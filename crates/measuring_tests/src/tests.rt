@@ -1,9 +1,8 @@
+use buffers::Buffers;
 use filters::{Family, Filter};
 use graph::{Edge, Graph, judge};
 use lattice::Level;
-use measuring::{
-    Buffers, Mesh, checksum_levels, checksum_records, parse_filter, parse_mesh, parse_repeat,
-};
+use measuring::{Mesh, checksum_levels, checksum_records, parse_filter, parse_mesh, parse_repeat};
 use std::process::Abort;
 
 // `edge` and `graph_of` stand in other test crates too. A crate for them would be a library, and each of its public functions
@@ -69,7 +68,7 @@ fn edges_of_a_random_mesh(rt: HostRuntime) -> anyhow::Result<()> {
 fn starting_weights(rt: HostRuntime) -> anyhow::Result<()> {
     let rows = [edge(0, 1), edge(1, 2)];
     let graph = graph_of(&rt, 3, &rows);
-    let weights = Buffers::starting(rt.alloc(), &graph)?;
+    let weights = measuring::starting_weights(rt.alloc(), &graph)?;
     assert_eq!(rt;
         weights.vertices.as_slice(),
         [level(27735), level(33384), level(42490)].as_slice()
@@ -85,7 +84,7 @@ fn starting_weights(rt: HostRuntime) -> anyhow::Result<()> {
 fn lowest_weights_become_others(rt: HostRuntime) -> anyhow::Result<()> {
     let rows = [edge(0, 1), edge(1, 2)];
     let graph = graph_of(&rt, 3, &rows);
-    let start = Buffers::starting(rt.alloc(), &graph)?;
+    let start = measuring::starting_weights(rt.alloc(), &graph)?;
     let mut weights = Buffers::lowest(rt.alloc(), 3, 2)?;
     assert_eq!(rt;
         weights.vertices.as_slice(),

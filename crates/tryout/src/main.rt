@@ -3,46 +3,18 @@
 
 #![tactic(auto)]
 
-use filters::WeightsMut;
+use buffers::Buffers;
 use graph::{Edge, Graph, judge};
-use lattice::{Kind, Level};
+use lattice::Level;
 use path_sheet::{VERTICES, edge_records, edges, vertex_records};
 use recipe::Recipe;
 use refusal::Refusal;
 use sheet::Sheet;
-use std::alloc::{AllocError, Global};
 use std::io;
 use std::io::Read;
 
 /// One byte more than the longest recipe with its newline: what is longer is refused whatever follows.
 const LONGEST_INPUT: u64 = 4098;
-
-// Kept beside that of `worked_example`: a program owns its memory, and in a library no clause could say what a pair of buffers that
-// `weights_mut` lends becomes.
-/// A weight for each vertex and edge.
-#[derive(Drop)]
-struct Buffers {
-    vertices: Vec<Level>,
-    edges: Vec<Level>,
-}
-
-impl Buffers {
-    /// Buffers for so many vertices and edges, all lowest.
-    fn new(heap: Global, n: usize, m: usize) -> Result<Buffers, AllocError> {
-        Ok(Buffers {
-            vertices: vec![in heap; Level::lowest(); n]?,
-            edges: vec![in heap; Level::lowest(); m]?,
-        })
-    }
-
-    /// The weights, to be changed.
-    fn weights_mut(&mut self) -> WeightsMut<'_, '_, Level> {
-        WeightsMut {
-            vertices: &mut self.vertices,
-            edges: &mut self.edges,
-        }
-    }
-}
 
 /// The text of the recipe, without one final newline.
 fn read_text(rt: &HostRuntime) -> anyhow::Result<Vec<u8>> {
@@ -58,25 +30,20 @@ fn read_text(rt: &HostRuntime) -> anyhow::Result<Vec<u8>> {
 fn run(
     table: &[Edge],
     text: &[u8],
-    weights: &mut Buffers,
-    scratch: &mut Buffers,
-    held: &mut Buffers,
+    weights: &mut Buffers<Level>,
+    scratch: &mut Buffers<Level>,
+    held: &mut Buffers<Level>,
 ) -> Result<(), Refusal> {
     let mut graph = Graph::empty();
     judge(&mut graph, VERTICES, table)?;
-    let sheet = Sheet::open(
-        &graph,
-        &vertex_records(),
-        edge_records(),
-        weights.weights_mut(),
-    )?;
+    let sheet = Sheet::open(&graph, &vertex_records(), edge_records(), weights.lend())?;
     let mut place = Recipe::empty();
     sheet.run(
         text,
         &mut place,
-        weights.weights_mut(),
-        scratch.weights_mut(),
-        held.weights_mut(),
+        weights.lend(),
+        scratch.lend(),
+        held.lend(),
     )
 }
 
@@ -94,9 +61,9 @@ fn print_line(rt: &HostRuntime, weights: &[Level]) -> io::Result<()> {
 /// Prints the weights after the recipe, or its refusal.
 fn show(rt: &HostRuntime, table: &[Edge], text: &[u8]) -> anyhow::Result<()> {
     let heap = rt.alloc();
-    let mut weights = Buffers::new(heap, VERTICES, table.len())?;
-    let mut scratch = Buffers::new(heap, VERTICES, table.len())?;
-    let mut held = Buffers::new(heap, VERTICES, table.len())?;
+    let mut weights = Buffers::lowest(heap, VERTICES, table.len())?;
+    let mut scratch = Buffers::lowest(heap, VERTICES, table.len())?;
+    let mut held = Buffers::lowest(heap, VERTICES, table.len())?;
     match run(table, text, &mut weights, &mut scratch, &mut held) {
         Ok(()) => {
             print_line(rt, &weights.vertices)?;

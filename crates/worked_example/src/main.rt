@@ -3,15 +3,15 @@
 
 #![tactic(auto)]
 
-use filters::{Weights, WeightsMut};
+use buffers::Buffers;
 use graph::{Edge, Graph, check_file, judge};
-use lattice::{Kind, Level, Presence};
+use lattice::{Level, Presence};
 use path_sheet::edge_records;
 use readings::LevelCut;
 use recipe::Recipe;
 use refusal::Refusal;
 use sheet::Sheet;
-use std::alloc::{AllocError, Global};
+use std::alloc::AllocError;
 use std::{fmt, fs, io};
 
 /// Why the example stops: a call refuses what it reads, or the system gives no file, memory or output.
@@ -39,40 +39,6 @@ impl From<io::Error> for Stop {
     }
 }
 
-// Kept beside that of `tryout`, for the reason that stands there.
-/// A weight for each vertex and edge.
-#[derive(Drop)]
-struct Buffers<K> {
-    vertices: Vec<K>,
-    edges: Vec<K>,
-}
-
-impl<K: Kind + Clone> Buffers<K> {
-    /// Buffers for the weights of a graph, all lowest.
-    fn new(heap: Global, graph: &Graph) -> Result<Buffers<K>, AllocError> {
-        Ok(Buffers {
-            vertices: vec![in heap; K::lowest(); graph.order()]?,
-            edges: vec![in heap; K::lowest(); graph.edges().len()]?,
-        })
-    }
-
-    /// The weights, to be read.
-    fn weights(&self) -> Weights<'_, '_, K> {
-        Weights {
-            vertices: &self.vertices,
-            edges: &self.edges,
-        }
-    }
-
-    /// The weights, to be changed.
-    fn weights_mut(&mut self) -> WeightsMut<'_, '_, K> {
-        WeightsMut {
-            vertices: &mut self.vertices,
-            edges: &mut self.edges,
-        }
-    }
-}
-
 /// Prints weights on one line, one space between.
 fn print_line<K: fmt::Display>(rt: &HostRuntime, weights: &[K]) -> io::Result<()> {
     if let Some((first, rest)) = weights.split_first() {
@@ -93,22 +59,24 @@ fn print_weights<K: fmt::Display>(rt: &HostRuntime, weights: &Buffers<K>) -> io:
 /// Opens the sheet, filters it, and prints the weights and where they reach 5.
 fn filter_and_print(rt: &HostRuntime, graph: &Graph, records: &[u8]) -> Result<(), Stop> {
     let heap = rt.alloc();
-    let mut weights = Buffers::new(heap, graph)?;
-    let mut scratch = Buffers::new(heap, graph)?;
-    let mut held = Buffers::new(heap, graph)?;
-    let sheet = Sheet::open(graph, records, edge_records(), weights.weights_mut())?;
+    let n = graph.order();
+    let m = graph.edges().len();
+    let mut weights = Buffers::lowest(heap, n, m)?;
+    let mut scratch = Buffers::lowest(heap, n, m)?;
+    let mut held = Buffers::lowest(heap, n, m)?;
+    let sheet = Sheet::open(graph, records, edge_records(), weights.lend())?;
     let mut place = Recipe::empty();
     sheet.run(
         b"O1",
         &mut place,
-        weights.weights_mut(),
-        scratch.weights_mut(),
-        held.weights_mut(),
+        weights.lend(),
+        scratch.lend(),
+        held.lend(),
     )?;
     print_weights(rt, &weights)?;
-    let mut images = Buffers::<Presence>::new(heap, graph)?;
+    let mut images = Buffers::<Presence>::lowest(heap, n, m)?;
     let cut = LevelCut::new(Level::new(5))?;
-    sheet.read(&cut, weights.weights(), images.weights_mut())?;
+    sheet.read(&cut, weights.weights(), images.lend())?;
     print_weights(rt, &images)?;
     Ok(())
 }
