@@ -1,5 +1,5 @@
 -- Words that begin with those of a mesh, read by their places. Assumes nothing.
-use Rattle.std.proofs.Common.{◌≡◌, ◌-◌, ◌<◌, ◌≤◌, length, List, [], ◌∷◌, String, codes, string_bytes, get_or, take, drop, subst, arith, rules}
+use Rattle.std.proofs.Common.{◌≡◌, ◌-◌, ◌≤◌, length, List, [], ◌∷◌, String, codes, string_bytes, get_or, take, drop, subst, arith, rules}
 use Rattle.std.proofs.lemmas.List.{take_rest}
 use Rattle.measuring.specs.Words.{GridWords, RandomWords, BeginsWithGrid, BeginsWithRandom}
 use Rattle.measuring.specs.declared.meshes.Mesh.{Mesh}
