@@ -2,6 +2,8 @@
 
 #![tactic(auto)]
 
+mod lines;
 mod memory;
 
+pub use lines::Line;
 pub use memory::Buffers;

@@ -3,14 +3,13 @@
 
 #![tactic(auto)]
 
-use buffers::Buffers;
+use buffers::{Buffers, Line};
 use graph::{Edge, Graph, judge};
 use lattice::Level;
 use path_sheet::{VERTICES, edge_records, edges, vertex_records};
 use recipe::Recipe;
 use refusal::Refusal;
 use sheet::Sheet;
-use std::io;
 use std::io::Read;
 
 /// One byte more than the longest recipe with its newline: what is longer is refused whatever follows.
@@ -47,17 +46,6 @@ fn run(
     )
 }
 
-/// Prints weights on one line, one space between.
-fn print_line(rt: &HostRuntime, weights: &[Level]) -> io::Result<()> {
-    if let Some((first, rest)) = weights.split_first() {
-        print!(rt; "{first}")?;
-        for weight in rest {
-            print!(rt; " {weight}")?;
-        }
-    }
-    println!(rt)
-}
-
 /// Prints the weights after the recipe, or its refusal.
 fn show(rt: &HostRuntime, table: &[Edge], text: &[u8]) -> anyhow::Result<()> {
     let heap = rt.alloc();
@@ -66,8 +54,10 @@ fn show(rt: &HostRuntime, table: &[Edge], text: &[u8]) -> anyhow::Result<()> {
     let mut held = Buffers::lowest(heap, VERTICES, table.len())?;
     match run(table, text, &mut weights, &mut scratch, &mut held) {
         Ok(()) => {
-            print_line(rt, &weights.vertices)?;
-            print_line(rt, &weights.edges)?;
+            let vertices = Line(weights.vertices.as_slice());
+            let edges = Line(weights.edges.as_slice());
+            println!(rt; "{vertices}")?;
+            println!(rt; "{edges}")?;
         }
         Err(refusal) => {
             let number = refusal.number();

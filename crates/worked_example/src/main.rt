@@ -3,7 +3,7 @@
 
 #![tactic(auto)]
 
-use buffers::Buffers;
+use buffers::{Buffers, Line};
 use graph::{Edge, Graph, check_file, judge};
 use lattice::{Level, Presence};
 use path_sheet::edge_records;
@@ -39,21 +39,12 @@ impl From<io::Error> for Stop {
     }
 }
 
-/// Prints weights on one line, one space between.
-fn print_line<K: fmt::Display>(rt: &HostRuntime, weights: &[K]) -> io::Result<()> {
-    if let Some((first, rest)) = weights.split_first() {
-        print!(rt; "{first}")?;
-        for weight in rest {
-            print!(rt; " {weight}")?;
-        }
-    }
-    println!(rt)
-}
-
 /// Prints the weights of the vertices, and those of the edges.
 fn print_weights<K: fmt::Display>(rt: &HostRuntime, weights: &Buffers<K>) -> io::Result<()> {
-    print_line(rt, &weights.vertices)?;
-    print_line(rt, &weights.edges)
+    let vertices = Line(weights.vertices.as_slice());
+    let edges = Line(weights.edges.as_slice());
+    println!(rt; "{vertices}")?;
+    println!(rt; "{edges}")
 }
 
 /// Opens the sheet, filters it, and prints the weights and where they reach 5.
