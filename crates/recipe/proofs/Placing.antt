@@ -1,6 +1,5 @@
 -- The words of a recipe, put one after another.
-use Rattle.std.proofs.Common.{◌≡◌, ℕ, ◌+◌, ◌<◌, ◌≤◌, ltb, List, [], ◌++◌, length, get_or, take, drop, sym, ap, ◌∙◌, zero-add, arith, length-append, length-drop}
-use Rattle.std.proofs.lemmas.Bool.{cond-false, le-ltb}
+use Rattle.std.proofs.Common.{◌≡◌, ℕ, ◌+◌, ◌<◌, ◌≤◌, List, [], ◌++◌, length, get_or, take, drop, ap, arith, length-append, length-drop}
 use Rattle.std.proofs.lemmas.List.{length-take-le}
 use Rattle.std.proofs.lemmas.List.Folds.{length-flat_map-take}
 use Rattle.std.proofs.lemmas.Slice.{first_rest}
@@ -9,7 +8,7 @@ use Rattle.filters.specs.declared.families.Family.TheVariants.{Dilation}
 use Rattle.recipe.specs.declared.words.Word.{Word}
 use Rattle.recipe.specs.Legal.{Legal}
 use Rattle.recipe.specs.Shapes.{step_of}
-use Rattle.recipe.specs.Written.{spelling, spaced, written, overwritten, placed}
+use Rattle.recipe.specs.Written.{spelling, spaced, written, placed}
 use Rattle.recipe.proofs.RoundTrip.{short_written}
 
 -- what a read of a word past the end would give
@@ -41,7 +40,3 @@ module _ (ws : List Word) (some : 0 < length ws) where
 pub length_placed : (bytes : List ℕ) (at : ℕ) (put : List ℕ) → at + length put ≤ length bytes → length (placed bytes at put) ≡ length bytes
 length_placed bytes at put h =
     omega (arith, length-append (take at bytes) (put ++ drop (at + length put) bytes), length-append put (drop (at + length put) bytes), length-take-le at bytes (omega arith), length-drop (at + length put) bytes)
-
--- a text that has room is put over the front of the buffer
-pub overwritten_is : (text buffer : List ℕ) → length text ≤ length buffer → overwritten text buffer ≡ placed buffer 0 text
-overwritten_is text buffer room = cond-false (ltb (length buffer) (length text)) _ _ (le-ltb _ _ room) ∙ ap (λ n. text ++ drop n buffer) (sym (zero-add (length text)))
