@@ -6,8 +6,8 @@
 
 #![tactic(auto)]
 
+mod byte_records;
 mod jobs;
-mod records;
 mod runs;
 
 use jobs::Job;

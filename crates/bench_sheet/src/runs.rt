@@ -4,8 +4,8 @@
 // `timed`, there in `time_apply`). A function of both that took the time or printed could promise nothing of it, and one that lent
 // its graph to a closure would have to be public with a `requires`. The usage and the number of decimals differ too.
 
+use crate::byte_records::{Records, clear};
 use crate::jobs::{Job, Task};
-use crate::records::{Records, clear};
 use anyhow::anyhow;
 use buffers::Buffers;
 use filters::Filter;
