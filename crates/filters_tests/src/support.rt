@@ -7,8 +7,8 @@ use refusal::{Part, Refusal};
 use std::process::Abort;
 use std::test::Fail;
 
-// `edge`, `reversed`, `outcome` and `graph_of` stand in other test crates too. A crate for them would be a library, and each of
-// its public functions would owe a contract and a must-fail edit, for three lines.
+// `edge`, `weights`, `levels`, `reversed`, `presences`, `outcome` and `graph_of` stand in other test crates too. A crate for them would be
+// a library, and each of its public functions would owe a contract and a must-fail edit, for a few lines.
 
 // A function for each letter, as a recipe names the filters: `d(1)` for `D1`.
 

@@ -5,8 +5,8 @@ use graph::{Edge, Graph, judge};
 use lattice::{Kind, Level, Presence, Reversed};
 use refusal::{Part, Refusal};
 
-// `graph_of` and `reversed` stand in other test crates too. A crate for them would be a library, and each of its public functions
-// would owe a contract and a must-fail edit, for three lines.
+// `graph_of`, `weights`, `levels`, `reversed` and `presences` stand in other test crates too. A crate for them would be a library, and each
+// of its public functions would owe a contract and a must-fail edit, for a few lines.
 
 pub(crate) fn filter(family: Family, size: u32) -> Filter {
     Filter { family, size }
