@@ -46,6 +46,8 @@ pub enum Failure {
     NoMemory,
 }
 
+// `Problem` of `c_library` has conversions of this shape: each error type says for itself which case it makes.
+
 impl From<Refusal> for Failure {
     ghost from_gives = { λ why r. r ≡ RefusedCase why };
 

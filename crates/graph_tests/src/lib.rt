@@ -5,6 +5,8 @@
 use graph::{Edge, Graph, check_file, judge};
 use refusal::{Part, Refusal};
 
+// The cases are of one shape, each with its own values, and stand apart so that each can be read by itself.
+
 // `outcome` and `edge` stand in other test crates too. A crate for them would be a library, and each of its public functions
 // would owe a contract and a must-fail edit, for three lines.
 

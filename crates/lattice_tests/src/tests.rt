@@ -4,6 +4,8 @@ use refusal::{Part, Refusal};
 use std::process::Abort;
 use std::test::Fail;
 
+// The cases are of one shape, each with its own values, and stand apart so that each can be read by itself.
+
 // `reversed` stands in other test crates too. A crate for it would be a library, and each of its public functions would owe a
 // contract and a must-fail edit, for three lines.
 

@@ -39,9 +39,9 @@ fn parse_grid(width: &str, height: &str) -> anyhow::Result<Mesh>
 fn parse_random(n: &str, m: &str, seed: &str) -> anyhow::Result<Mesh>
     ensures { Reads (RandomWords n.now m.now seed.now) result }
 {
-    let Ok(seed) = seed.parse::<u64>() else {
-        return Err(anyhow!("SEED is a number of 64 bits"));
-    };
+    let seed = seed
+        .parse::<u64>()
+        .map_err(|_| anyhow!("SEED is a number of 64 bits"))?;
     match (n.parse::<u32>(), m.parse::<u32>()) {
         (Ok(n), Ok(m)) if is_sparse(n, m) => Ok(Mesh::Random(Random { n, m, seed })),
         _ => Err(anyhow!(

@@ -5,6 +5,8 @@ use lattice::Level;
 use measuring::{Mesh, checksum_levels, checksum_records, parse_filter, parse_mesh, parse_repeat};
 use std::process::Abort;
 
+// The cases are of one shape, each with its own values, and stand apart so that each can be read by itself.
+
 // `edge` and `graph_of` stand in other test crates too. A crate for them would be a library, and each of its public functions
 // would owe a contract and a must-fail edit, for three lines.
 
