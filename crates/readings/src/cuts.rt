@@ -10,12 +10,16 @@ ghost use Rattle.lattice.specs.declared.presences.Presence.TheVariants.{Present}
 ghost use Rattle.readings.specs.Cuts.{cut_at, cut_call, lowest_of, lowest_level, lowest_presence, lowest_reversed_level, map_answer};
 ghost use Rattle.readings.specs.CutLaws.{cut_morphism};
 
+use crate::presence_cuts::PresenceCut;
 use crate::readings::Reading;
 use lattice::{Chain, Kind, Level, Presence, Reversed};
 use refusal::Refusal;
 use std::alloc::AllocError;
 
-/// A cut of a chain, at a threshold above the lowest value.
+/// A cut of any chain, at a threshold above the lowest value.
+///
+/// Presences, levels and reversed levels have cuts of their own ([`PresenceCut`], [`crate::LevelCut`], [`crate::ReversedLevelCut`]), whose
+/// contracts speak of their values.
 #[derive(Copy)]
 pub struct ChainCut<C: Chain> {
     threshold: C,
@@ -32,15 +36,6 @@ impl<C: Chain> Clone for ChainCut<C> {
         Ok(*self)
     }
 }
-
-/// The cut of presences at present, the only one.
-pub type PresenceCut = ChainCut<Presence>;
-
-/// A cut of the levels, at a threshold above 0.
-pub type LevelCut = ChainCut<Level>;
-
-/// A cut of the reversed levels, at a threshold under 65,535, which is the lowest of them.
-pub type ReversedLevelCut = ChainCut<Reversed<Level>>;
 
 impl<C: Chain> ChainCut<C> {
     /// The cut at the threshold. Refuses the lowest value by 17.
