@@ -10,7 +10,6 @@ ghost use Rattle.lattice.specs.declared.presences.Presence.TheVariants.{Present}
 ghost use Rattle.readings.specs.Cuts.{cut_at, cut_call, lowest_of, lowest_level, lowest_presence, lowest_reversed_level, map_answer};
 ghost use Rattle.readings.specs.CutLaws.{cut_morphism};
 
-use crate::presence_cuts::PresenceCut;
 use crate::readings::Reading;
 use lattice::{Chain, Kind, Level, Presence, Reversed};
 use refusal::Refusal;
@@ -18,7 +17,7 @@ use std::alloc::AllocError;
 
 /// A cut of any chain, at a threshold above the lowest value.
 ///
-/// Presences, levels and reversed levels have cuts of their own ([`PresenceCut`], [`crate::LevelCut`], [`crate::ReversedLevelCut`]), whose
+/// Presences, levels and reversed levels have cuts of their own ([`crate::PresenceCut`], [`crate::LevelCut`], [`crate::ReversedLevelCut`]), whose
 /// contracts speak of their values.
 #[derive(Copy)]
 pub struct ChainCut<C: Chain> {
@@ -86,8 +85,8 @@ pub fn cut_keeps_all<C: Chain>(threshold: C)
     ensures { (threshold ≢ C.Kind.operations.lowest) → Morphism C.Kind.operations presence_operations (cut_at C.Kind.leq threshold) }
 {}
 
-/// Shows what a cut of presences is: the threshold is present, and each presence is read as itself.
-pub fn presence_cut_is_same(cut: PresenceCut, weight: Presence)
+/// Shows what a chain's cut of presences is: the threshold is present, and each presence is read as itself.
+pub fn presence_cut_is_same(cut: ChainCut<Presence>, weight: Presence)
     ensures threshold { cut.threshold ≡ Present }
     ensures same { cut_at presence_leq cut.threshold weight ≡ weight }
 {}

@@ -4,7 +4,7 @@ ghost use Rattle.std.specs.Prelude.{◌≡◌, ℕ};
 ghost use Rattle.std.proofs.Common.{sym, ◌∙◌, arith};
 ghost use Rattle.refusal.specs.Reports.{answer};
 ghost use Rattle.readings.specs.Cuts.{cut_at, cut_call, map_answer, lowest_presence};
-ghost use Rattle.lattice.specs.Presences.{presence_leq};
+ghost use Rattle.lattice.specs.Presences.{presence_below, presence_leq};
 ghost use Rattle.lattice.specs.declared.presences.Presence.TheVariants.{Present};
 ghost use Rattle.lattice.specs.ChainLaws.{presence_total};
 ghost use Rattle.readings.specs.CutLaws.{cut_morphism};
@@ -55,6 +55,7 @@ impl Reading for PresenceCut {
     fn read(&self, weight: Presence) -> Presence
         ensures value { result ≡ cut_at presence_leq self.now.threshold weight }
         ensures same { result ≡ weight }
+        ensures exact { (result ≡ Present → presence_below self.now.threshold weight) × (presence_below self.now.threshold weight → result ≡ Present) }
     {
         cut(self.threshold, weight)
     }
