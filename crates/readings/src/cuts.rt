@@ -15,7 +15,10 @@ use lattice::{Chain, Kind, Level, Presence, Reversed};
 use refusal::Refusal;
 use std::alloc::AllocError;
 
-/// A cut of a chain, at a threshold above the lowest value.
+/// A cut of any chain, at a threshold above the lowest value.
+///
+/// Presences, levels and reversed levels have cuts of their own ([`crate::PresenceCut`], [`crate::LevelCut`], [`crate::ReversedLevelCut`]), whose
+/// contracts speak of their values.
 #[derive(Copy)]
 pub struct ChainCut<C: Chain> {
     threshold: C,
@@ -32,15 +35,6 @@ impl<C: Chain> Clone for ChainCut<C> {
         Ok(*self)
     }
 }
-
-/// The cut of presences at present, the only one.
-pub type PresenceCut = ChainCut<Presence>;
-
-/// A cut of the levels, at a threshold above 0.
-pub type LevelCut = ChainCut<Level>;
-
-/// A cut of the reversed levels, at a threshold under 65,535, which is the lowest of them.
-pub type ReversedLevelCut = ChainCut<Reversed<Level>>;
 
 impl<C: Chain> ChainCut<C> {
     /// The cut at the threshold. Refuses the lowest value by 17.
@@ -91,8 +85,8 @@ pub fn cut_keeps_all<C: Chain>(threshold: C)
     ensures { (threshold ≢ C.Kind.operations.lowest) → Morphism C.Kind.operations presence_operations (cut_at C.Kind.leq threshold) }
 {}
 
-/// Shows what a cut of presences is: the threshold is present, and each presence is read as itself.
-pub fn presence_cut_is_same(cut: PresenceCut, weight: Presence)
+/// Shows what a chain's cut of presences is: the threshold is present, and each presence is read as itself.
+pub fn presence_cut_is_same(cut: ChainCut<Presence>, weight: Presence)
     ensures threshold { cut.threshold ≡ Present }
     ensures same { cut_at presence_leq cut.threshold weight ≡ weight }
 {}

@@ -1,15 +1,19 @@
 -- What is written reads back the same.
-use Rattle.std.proofs.Common.{◌≡◌, ℕ, ◌+◌, ◌*◌, ◌%◌, ◌^◌, ◌<◌, ◌≤◌, true, leb, List, [], ◌∷◌, ◌++◌, length, take, decimal, sym, refl, ap, ◌∙◌, arith, length-append}
+use Rattle.std.proofs.Common.{◌≡◌, ℕ, ◌+◌, ◌*◌, ◌%◌, ◌^◌, ◌<◌, ◌≤◌, Bool, true, false, cond, ltb, leb, List, [], ◌∷◌, ◌++◌, length, take, drop, IfOk, Ok, Err, decimal, Result, sym, refl, ap, ◌∙◌, subst, arith, length-append}
 use Rattle.std.proofs.lemmas.Fmt.{decimal_by_steps, length-decimal-le}
 use Rattle.std.proofs.lemmas.List.{take_at}
 use Rattle.std.proofs.lemmas.Bool.{and_parts, leb-true}
 use Rattle.std.specs.List.{flat_map}
+use Rattle.refusal.specs.declared.Refusal.{Refusal}
+use Rattle.refusal.specs.Reports.{answer, accepted, refused}
+use Rattle.refusal.specs.declared.Part.TheVariants as part
 use Rattle.recipe.specs.declared.words.Word.{Word}
 use Rattle.recipe.specs.declared.words.Word.TheVariants.{Step, Hold, Join, Meet, Forget}
 use Rattle.recipe.specs.Grammar.{Digits, Number, Spells, Ends, SpellsAll, Text}
 use Rattle.recipe.specs.Legal.{size_fits, sizes_fit, Legal}
 use Rattle.recipe.specs.Shapes.{numeral}
-use Rattle.recipe.specs.Written.{spelling, spaced, written}
+use Rattle.recipe.specs.Written.{spelling, spaced, written, write_answer, overwritten}
+use Rattle.recipe.proofs.Answering.{not_refused, same_value}
 use Rattle.recipe.proofs.Shaping.{numeral_push}
 
 -- the digits of a number above 0 are a number, and write it
@@ -121,3 +125,14 @@ written_text ws legal = record {
 -- the front of what a text was written over is that text
 pub front_is : (text front back : List ℕ) (n : ℕ) → front ≡ text → n ≡ length text → take n (front ++ back) ≡ text
 front_is text front back n same long = take_at front back n (ap length same ∙ sym long) ∙ same
+
+-- the front of the buffer after a text is written over it is that text
+module _ (P : List ℕ → Type 0) (text buffer : List ℕ) (holds : P text) where
+  if-short : (short : Bool) (r : Result ℕ Refusal) → answer r ≡ cond short (refused 18 0 part.Recipe) (accepted (length text)) → IfOk r (λ n. P (take n (cond short buffer (text ++ drop (length text) buffer))))
+  if-short true (Ok n) h = not_refused h
+  if-short true (Err e) h = tt
+  if-short false (Ok n) h = subst P (sym (take_at text (drop (length text) buffer) n (sym (same_value h)))) holds
+  if-short false (Err e) h = tt
+
+  pub front_holds : (r : Result ℕ Refusal) → answer r ≡ write_answer text buffer → IfOk r (λ n. P (take n (overwritten text buffer)))
+  front_holds r h = if-short (ltb (length buffer) (length text)) r h

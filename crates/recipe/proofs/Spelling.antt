@@ -146,3 +146,11 @@ module _ (at b : ℕ) (bs : List ℕ) (f : Family) (ds : List ℕ) (at' : ℕ) w
 pub shape_step : (at : ℕ) (bytes : List ℕ) (f : Family) (ds : List ℕ) (at' : ℕ) → shape_of at bytes ≡ accepted (step f ds at') → (bytes ≡ letter f ∷ ds) × Number ds × (at' ≡ at)
 shape_step at [] f ds at' h = not_accepted h
 shape_step at (b ∷ bs) f ds at' h = first_step at b bs f ds at' h
+
+-- every letter is one byte of text
+pub letter_ascii : (f : Family) → letter f < 128
+letter_ascii Dilation = omega arith
+letter_ascii Erosion = omega arith
+letter_ascii Opening = omega arith
+letter_ascii Closing = omega arith
+letter_ascii Alternate = omega arith

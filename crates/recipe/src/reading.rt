@@ -1,12 +1,12 @@
 //! A recipe from its text.
 
-ghost use Rattle.std.specs.Prelude.{◌≡◌, ℕ, ◌↔◌, List, []};
+ghost use Rattle.std.specs.Prelude.{◌≡◌, ℕ, ◌↔◌, ◌≤◌, List, [], length};
 ghost use Rattle.refusal.specs.declared.Part.{Part};
 ghost use Rattle.refusal.specs.Reports.{answer, accepted, refused};
 ghost use Rattle.recipe.specs.declared.turns.Turn.TheVariants.{Free};
 ghost use Rattle.recipe.specs.Legal.{Legal};
 ghost use Rattle.recipe.specs.Grammar.{Text};
-ghost use Rattle.recipe.specs.Judging.{judge, ended};
+ghost use Rattle.recipe.specs.Judging.{word_run, gap_run, judge, ended};
 ghost use Rattle.recipe.specs.Refused.{Refused};
 ghost use Rattle.recipe.specs.Contents.{recipe_words, read_answer, without_words, words_after};
 
@@ -20,6 +20,22 @@ use refusal::Refusal;
 
 /// The most bytes that a recipe text has.
 pub const MAX_TEXT_LEN: usize = 4096;
+
+/// How many spaces stand at the front.
+fn spaces_at_front(bytes: &[u8]) -> usize
+    ensures is { result ≡ gap_run bytes.now }
+    ensures within { result ≤ length bytes.now }
+{
+    bytes.iter().take_while(|b| **b == b' ').count()
+}
+
+/// How many bytes other than the space stand at the front.
+fn word_at_front(bytes: &[u8]) -> usize
+    ensures is { result ≡ word_run bytes.now }
+    ensures within { result ≤ length bytes.now }
+{
+    bytes.iter().take_while(|b| **b != b' ').count()
+}
 
 /// The draft of a text of this length as a recipe, unless something is still held.
 fn finish(draft: Draft, len: usize) -> Result<Recipe, Refusal>
@@ -45,13 +61,13 @@ impl Recipe {
             return Err(Refusal::TextTooLong);
         }
         let mut draft = Draft::new();
-        // The place is carried by hand, since a split gives the parts of a text and not their places.
-        let mut at = 0;
-        for word in text.split(|b| *b == b' ') {
-            if !word.is_empty() {
-                draft.admit(read_word(word, at)?, at)?;
-            }
-            at += word.len() + 1;
+        // Word by word and gap by gap, with the place carried by hand: a split would answer an empty part for each of many spaces, which
+        // takes several times as long.
+        let mut at = spaces_at_front(text);
+        while at < text.len() {
+            let (word, later) = text[at..].split_at(word_at_front(&text[at..]));
+            draft.admit(read_word(word, at)?, at)?;
+            at += word.len() + spaces_at_front(later);
         }
         finish(draft, text.len())
     }

@@ -22,7 +22,7 @@ const MAX_WRITTEN: usize = 5 * MAX_WORDS;
 
 /// The letter of a family.
 // Kept as a function: `Family` is of another crate, and so are the traits of conversion.
-fn letter_of(family: Family) -> char
+pub(crate) fn letter_of(family: Family) -> char
     ensures is { result ≡ letter family }
     ensures ascii { result < 128 }
 {

@@ -55,6 +55,8 @@ fn filter_and_print(rt: &HostRuntime, graph: &Graph, records: &[u8]) -> Result<(
     let mut weights = Buffers::lowest(heap, n, m)?;
     let mut scratch = Buffers::lowest(heap, n, m)?;
     let mut held = Buffers::lowest(heap, n, m)?;
+    // Taken before anything is printed, so that want of memory leaves no half of an answer.
+    let mut images = Buffers::<Presence>::lowest(heap, n, m)?;
     let sheet = Sheet::open(graph, records, edge_records(), weights.lend())?;
     let mut place = Recipe::empty();
     sheet.run(
@@ -65,7 +67,6 @@ fn filter_and_print(rt: &HostRuntime, graph: &Graph, records: &[u8]) -> Result<(
         held.lend(),
     )?;
     print_weights(rt, &weights)?;
-    let mut images = Buffers::<Presence>::lowest(heap, n, m)?;
     let cut = LevelCut::new(Level::new(5))?;
     sheet.read(&cut, weights.weights(), images.lend())?;
     print_weights(rt, &images)?;

@@ -1,8 +1,6 @@
 -- What is left to show of recipes::Recipe::read.
-use Rattle.std.proofs.Common.{◌≡◌, ℕ, ◌<◌, ◌≤◌, ◌↔◌, List, length, [], ◌∷◌, ◌++◌, ◌+◌, get_or, None, Ok, Err, Result, sym, ap, ◌∙◌, subst, arith, rules, tests}
-use Rattle.std.proofs.lemmas.Iterator.Splits.{YieldsList-from_slice_split}
-use Rattle.std.proofs.lemmas.Iterator.Consumers.{YieldsList-turn, YieldsList-end}
-use Rattle.std.proofs.lemmas.List.{length_push}
+use Rattle.std.proofs.Common.{◌≡◌, ℕ, ◌+◌, ◌≤◌, ◌↔◌, List, length, take, drop, Err, Result, sym, ap, ◌∙◌, subst, arith}
+use Rattle.std.proofs.lemmas.List.{take_rest}
 use Rattle.std.proofs.lemmas.Result.{err_from_is_err_and}
 use Rattle.refusal.specs.declared.Part.{Part}
 use Rattle.refusal.specs.declared.Refusal.{Refusal}
@@ -14,37 +12,38 @@ use Rattle.recipe.specs.Grammar.{Text}
 use Rattle.recipe.specs.Refused.{Refused}
 use Rattle.recipe.specs.Shapes.{word_of}
 use Rattle.recipe.specs.Contents.{read_answer}
-use Rattle.recipe.specs.Judging.{judge, Run, progress, start, runs, admitted_word, read_runs}
+use Rattle.recipe.specs.Judging.{judge, Run, word_run, gap_run, progress, start, runs, admitted_word, read_runs}
 use Rattle.recipe.proofs.Refusing.{refused_why}
 use Rattle.recipe.proofs.Exactly.{refused_judge}
 use Rattle.recipe.proofs.Meaning.{sound}
 use Rattle.recipe.proofs.Accepting.{accepted_text, text_accepted}
-use Rattle.recipe.proofs.Parting.{is_space, parts, Left, all_left, within, later, moved, over_none, over_word, after_word, none_left}
-use Rattle.recipe.proofs.Running.{refused_stays, judged, judged_long}
+use Rattle.recipe.proofs.Running.{Unread, all_unread, none_unread, word_here, after_here, later_runs, word_left, word_read, refused_stays, judged, judged_long}
 use Rattle.recipe.proofs.recipes.Recipe.read.Goals as goal
-use Rattle.recipe.proofs.recipes.Recipe.read.Goals.{After-is_empty, After-next, then-not-is_empty+in_ok-read_word+in_ok-admit, else-not-is_empty}
+use Rattle.recipe.proofs.recipes.Recipe.read.Goals.{After-read_word, After-loop-at}
 
--- the part that an iteration has
-turn : (c : After-is_empty) → (length c.loop-word.yielded < length (parts c.args.text.now)) × (c.in-Some.word.now ≡ get_or (parts c.args.text.now) (length c.loop-word.yielded) c.in-Some.word.now)
-turn c =
-    YieldsList-turn (YieldsList-from_slice_split _ is_space c.args.text.now (cc) (cc) (cc) (λ x b q k. search (rules, tests)))
-    c.loop-word.yielded _ c.loop-word.yielded_by _ _ c.in-Some.word c.in-Some.is c.next.ensures.steps
+-- the words after the one that was read
+abbrev later : After-read_word → List Run
+later c = later_runs c.loop-at.invariant c.loop-at-test.true
 
--- the runs of the parts after it
-abbrev others : After-is_empty → List Run
-others c = later c.loop-word.invariant c.in-Some.word.now (turn c).0 (turn c).1
+run_is : (c : After-read_word) → c.word_at_front.result ≡ word_run (drop c.loop-at.at c.args.text.now)
+run_is c = c.word_at_front.ensures.is ∙ ap word_run (take_rest c.args.text.now c.loop-at.at)
 
--- what is read of a word gives the answer
-read_on : (c : After-is_empty) (r : Result Word Refusal) → 0 < length c.in-Some.word.now → answer r ≡ word_of c.loop-word.at c.in-Some.word.now → read_runs (accepted start) (runs 0 c.args.text.now) ≡ read_runs (admitted_word c.loop-word.at (answer r) (progress c.loop-word.draft)) (others c)
-read_on c r some e =
-    sym (over_word c.loop-word.invariant c.in-Some.word.now (turn c).0 (turn c).1 some)
-    ∙ ap (λ w. read_runs (admitted_word c.loop-word.at w (progress c.loop-word.draft)) (others c)) (sym e)
+word_is : (c : After-read_word) → c.split_at.result.0.now ≡ word_here c.loop-at.invariant c.loop-at-test.true
+word_is c = c.split_at.ensures.front ∙ (λ i. take (run_is c i) (take_rest c.args.text.now c.loop-at.at i))
+
+after_is : (c : After-read_word) → c.split_at.result.1.now ≡ after_here c.loop-at.invariant c.loop-at-test.true
+after_is c = c.split_at.ensures.back ∙ (λ i. drop (run_is c i) (take_rest c.args.text.now c.loop-at.at i))
+
+-- they give the answer from what the word was read as
+turn : (c : After-read_word) (r : Result Word Refusal) → c.read_word.result ≡ r → read_runs (accepted start) (runs 0 c.args.text.now) ≡ read_runs (admitted_word c.loop-at.at (answer r) (progress c.loop-at.draft)) (later c)
+turn c r e =
+    sym (word_left c.loop-at.invariant c.loop-at-test.true)
+    ∙ ap (λ w. read_runs (admitted_word c.loop-at.at (word_of c.loop-at.at w) (progress c.loop-at.draft)) (later c)) (sym (word_is c))
+    ∙ ap (λ w. read_runs (admitted_word c.loop-at.at w (progress c.loop-at.draft)) (later c)) (sym c.read_word.ensures ∙ ap answer e)
 
 -- at the end the draft is the answer
-done : (c : After-next) (end : c.next.result ≡ None) → read_runs (accepted start) (runs 0 c.args.text.now) ≡ accepted (progress c.loop-word.draft)
-done c end =
-    let all = YieldsList-end (YieldsList-from_slice_split _ is_space c.args.text.now (cc) (cc) (cc) (λ x b q k. search (rules, tests))) c.loop-word.yielded _ c.loop-word.yielded_by _ _ end c.next.ensures.steps in
-    none_left c.loop-word.invariant (omega (arith, all.1))
+done : (c : After-loop-at) → length c.args.text.now ≤ c.loop-at.at → read_runs (accepted start) (runs 0 c.args.text.now) ≡ accepted (progress c.loop-at.draft)
+done c h = none_unread c.loop-at.invariant h
 
 -- the answer that is judged right is the grammar's, and so is a refusal
 every : (text : List ℕ) (r : Result Recipe Refusal) → read_answer r ≡ judge text → record {
@@ -61,53 +60,44 @@ every text r same = record {
 pub returns-then-text-gt-MAX_TEXT_LEN : goal.returns-then-text-gt-MAX_TEXT_LEN
 returns-then-text-gt-MAX_TEXT_LEN c = every c.args.text.now (Err refusal.TextTooLong) (judged_long c.args.text.now c.if-text-gt-MAX_TEXT_LEN.true)
 
-pub loop-word-init : goal.loop-word-init
-loop-word-init c = subst (λ p. Left c.args.text.now p 0 0) (sym c.new-draft.ensures) (all_left c.args.text.now)
-
-pub read_word-requires : goal.read_word-requires
-read_word-requires c =
-    let before = (goal.at.read_word-requires c).After-is_empty in
-    omega (arith, c.if-text-gt-MAX_TEXT_LEN.false, within c.loop-word.invariant c.in-Some.word.now (turn before).0 (turn before).1)
+pub loop-at-init : goal.loop-at-init
+loop-at-init c =
+    let is = c.spaces_at_front-at.ensures.is in
+    subst (λ p. Unread c.args.text.now p c.spaces_at_front-at.result) (sym c.new-draft.ensures)
+    (subst (λ n. Unread c.args.text.now start n) (sym is) (all_unread c.args.text.now (omega (arith, is, c.spaces_at_front-at.ensures.within))))
 
 pub returns-in_err-read_word : goal.returns-in_err-read_word
 returns-in_err-read_word c =
     let p = err_from_is_err_and c.from_residual.result c.from_residual.ensures.1 in
     let short : length c.args.text.now ≤ 4096 = omega arith in
-    let before = (goal.at.returns-in_err-read_word c).After-is_empty in
-    let some : 0 < length c.in-Some.word.now = search rules in
+    let before = (goal.at.returns-in_err-read_word c).After-read_word in
     every _ _ (rw (p.1, p.2)
-    (judged c.args.text.now (refusal_answer c.in_err-read_word.field-0.0) short
-    (read_on before (Err c.in_err-read_word.field-0.0) some (ap answer (sym c.in_err-read_word.was) ∙ c.read_word.ensures) ∙ refused_stays _ _ _ (others before))))
+    (judged c.args.text.now (refusal_answer c.in_err-read_word.field-0.0) short (turn before _ c.in_err-read_word.was ∙ refused_stays _ _ _ (later before))))
 
 pub returns-in_err-admit : goal.returns-in_err-admit
 returns-in_err-admit c =
     let p = err_from_is_err_and c.from_residual-in_err-admit.result c.from_residual-in_err-admit.ensures.1 in
     let short : length c.args.text.now ≤ 4096 = omega arith in
-    let before = (goal.at.returns-in_err-admit c).After-is_empty in
-    let some : 0 < length c.in-Some.word.now = search rules in
+    let before = (goal.at.returns-in_err-admit c).After-read_word in
     every _ _ (rw (p.1, p.2)
     (judged c.args.text.now (refusal_answer c.in_err-admit.field-0.0) short
-    (read_on before (Ok c.in_ok-read_word.field-0) some (ap answer (sym c.in_ok-read_word.was) ∙ c.read_word.ensures) ∙ ap (λ q. read_runs q (others before)) (sym c.in_err-admit.ensures) ∙ refused_stays _ _ _ (others before))))
+    (turn before _ c.in_ok-read_word.was ∙ ap (λ q. read_runs q (later before)) (sym c.in_err-admit.ensures) ∙ refused_stays _ _ _ (later before))))
 
-pub loop-word-preserved : goal.loop-word-preserved
-loop-word-preserved c =
-    let before = (goal.at.loop-word-preserved c).After-is_empty in
-    let left = c.loop-word.invariant in
-    let bytes = c.in-Some.word.now in
-    let longer : length c.loop-word.yielded + 1 ≡ length (c.loop-word.yielded ++ c.in-Some.word ∷ []) = sym (length_push c.loop-word.yielded c.in-Some.word) in
-    elim c.if-not-is_empty.branch [
-      | then-not-is_empty+in_ok-read_word+in_ok-admit w ↦
-          moved
-          (after_word left bytes (turn before).0 (turn before).1 (progress w.admit.new.self) (search rules)
-          (w.in_ok-admit.ensures ∙ ap (λ a. admitted_word c.loop-word.at a (progress c.loop-word.draft)) (ap answer (sym w.in_ok-read_word.was) ∙ w.read_word.ensures)))
-          (ap progress (sym w.draft-is)) (omega arith) longer
-      | else-not-is_empty w ↦ moved (over_none left bytes (turn before).0 (turn before).1 (search rules)) (ap progress (sym w.draft-is)) (omega arith) longer
-    ]
+pub loop-at-preserved : goal.loop-at-preserved
+loop-at-preserved c =
+    let before = (goal.at.loop-at-preserved c).After-read_word in
+    let at = c.loop-at.at in
+    let gap : c.spaces_at_front.result ≡ gap_run (after_here c.loop-at.invariant c.loop-at-test.true) = c.spaces_at_front.ensures.is ∙ ap gap_run (after_is before) in
+    word_read c.loop-at.invariant c.loop-at-test.true (progress c.admit.new.self) _
+    (c.in_ok-admit.ensures
+    ∙ ap (λ a. admitted_word at a (progress c.loop-at.draft)) (ap answer (sym c.in_ok-read_word.was) ∙ c.read_word.ensures)
+    ∙ ap (λ w. admitted_word at (word_of at w) (progress c.loop-at.draft)) (word_is before))
+    (omega (arith, gap, run_is before, c.split_at.ensures.front_len))
 
 pub finish-requires : goal.finish-requires
-finish-requires c free = sound (runs 0 c.args.text.now) (progress c.loop-word.draft) (done (goal.at.finish-requires c).After-next c.in-None.is) free
+finish-requires c free = sound (runs 0 c.args.text.now) (progress c.loop-at.draft) (done (goal.at.finish-requires c).After-loop-at c.loop-at-test.false) free
 
 pub returns : goal.returns
 returns c =
     let short : length c.args.text.now ≤ 4096 = omega arith in
-    every _ _ (c.finish.ensures ∙ judged c.args.text.now (accepted (progress c.loop-word.draft)) short (done (goal.at.returns c).After-next c.in-None.is))
+    every _ _ (c.finish.ensures ∙ judged c.args.text.now (accepted (progress c.loop-at.draft)) short (done (goal.at.returns c).After-loop-at c.loop-at-test.false))
