@@ -23,14 +23,6 @@ in_word b = not (b == 32)
 abbrev pub word_run : List ℕ → ℕ
 word_run bs = front in_word bs
 
--- whether a byte is the space
-abbrev pub is_space : ℕ → Bool
-is_space b = b == 32
-
--- how many bytes at the front are spaces
-abbrev pub gap_run : List ℕ → ℕ
-gap_run bs = front is_space bs
-
 -- whether a word begins right here
 abbrev pub opens : List ℕ → Bool
 opens [] = false

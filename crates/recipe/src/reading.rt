@@ -6,7 +6,7 @@ ghost use Rattle.refusal.specs.Reports.{answer, accepted, refused};
 ghost use Rattle.recipe.specs.declared.turns.Turn.TheVariants.{Free};
 ghost use Rattle.recipe.specs.Legal.{Legal};
 ghost use Rattle.recipe.specs.Grammar.{Text};
-ghost use Rattle.recipe.specs.Judging.{word_run, gap_run, judge, ended};
+ghost use Rattle.recipe.specs.Judging.{word_run, judge, ended};
 ghost use Rattle.recipe.specs.Refused.{Refused};
 ghost use Rattle.recipe.specs.Contents.{recipe_words, read_answer, without_words, words_after};
 
@@ -20,14 +20,6 @@ use refusal::Refusal;
 
 /// The most bytes that a recipe text has.
 pub const MAX_TEXT_LEN: usize = 4096;
-
-/// How many spaces stand at the front.
-fn spaces_at_front(bytes: &[u8]) -> usize
-    ensures is { result ≡ gap_run bytes.now }
-    ensures within { result ≤ length bytes.now }
-{
-    bytes.iter().take_while(|b| **b == b' ').count()
-}
 
 /// How many bytes other than the space stand at the front.
 fn word_at_front(bytes: &[u8]) -> usize
@@ -61,13 +53,17 @@ impl Recipe {
             return Err(Refusal::TextTooLong);
         }
         let mut draft = Draft::new();
-        // Word by word and gap by gap, with the place carried by hand: a split would answer an empty part for each of many spaces, which
-        // takes several times as long.
-        let mut at = spaces_at_front(text);
+        // By places, since each word says where it stands; a split would answer an empty part for each of many spaces, which takes
+        // several times as long.
+        let mut at = 0;
         while at < text.len() {
-            let (word, later) = text[at..].split_at(word_at_front(&text[at..]));
-            draft.admit(read_word(word, at)?, at)?;
-            at += word.len() + spaces_at_front(later);
+            if text[at] == b' ' {
+                at += 1;
+            } else {
+                let end = at + word_at_front(&text[at..]);
+                draft.admit(read_word(&text[at..end], at)?, at)?;
+                at = end;
+            }
         }
         finish(draft, text.len())
     }
